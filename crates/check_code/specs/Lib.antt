@@ -1,0 +1,5 @@
+pub mod Code
+pub mod Aligned
+pub mod Laws
+pub mod Division
+pub mod Examples
