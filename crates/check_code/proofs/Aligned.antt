@@ -19,7 +19,7 @@ module _ (c : Code) (most : width c ≤ 32) where
       let u : ℕ = 32 - width c in
       let e : 31 ≡ c .top + u = omega arith in
       let top : v * 2 ^ u / 2 ^ 31 ≡ v / 2 ^ c .top =
-          ap (λ x. v * 2 ^ u / x) (ap (λ m. 2 ^ m) e ∙ pow-add 2 (c .top) u) ∙ mul-div-mul-right v (2 ^ c .top) (pow-pos u) in
+      ap (λ x. v * 2 ^ u / x) (ap (λ m. 2 ^ m) e ∙ pow-add 2 (c .top) u) ∙ mul-div-mul-right v (2 ^ c .top) (pow-pos u) in
       ap₂ bitXor (sym (mul-assoc 2 v (2 ^ u))) (ap (λ x. c .divisor * 2 ^ u * (x % 2)) top ∙ swap-last (c .divisor) (v / 2 ^ c .top % 2) (2 ^ u))
       ∙ sym (shl-xor (2 * v) (c .divisor * (v / 2 ^ c .top % 2)) u)
 

@@ -71,13 +71,13 @@ module _ (c : Code) (wide : 8 ≤ width c) where
       let fit : b * 2 ^ (width c - 8) < 2 ^ width c = subst (λ x. b * 2 ^ (width c - 8) < 2 ^ x) (sym e) (shl-lt 8 (width c - 8) hb) in
       fold-apart (enter c) (enter-linear c) v s 8
       ∙ ap₂ bitXor (enter-none c v 8)
-          (enter-below c s (bit-at-lt (b ∷ [])) 8
-          ∙ ap (steps c (width c)) (below-digits c s (bit-at-lt (b ∷ [])) 8 (omega arith) ∙ byte-digits b hb)
-          ∙ ap (λ x. steps c x b) e ∙ steps-add c 8 (width c - 8) b ∙ ap (steps c 8) (steps-small c (width c - 8) b fit))
+      (enter-below c s (bit-at-lt (b ∷ [])) 8
+      ∙ ap (steps c (width c)) (below-digits c s (bit-at-lt (b ∷ [])) 8 (omega arith) ∙ byte-digits b hb)
+      ∙ ap (λ x. steps c x b) e ∙ steps-add c 8 (width c - 8) b ∙ ap (steps c 8) (steps-small c (width c - 8) b fit))
       ∙ sym (steps-xor c 8 v (b * 2 ^ (width c - 8)))
 
   -- the register after one more byte
   pub register-more : (start : ℕ) (bytes : List ℕ) (i : ℕ) → getD bytes i 0 < 256
       → fold (enter c) start (bit-at bytes) (8 * (i + 1))
-        ≡ steps c 8 (bitXor (fold (enter c) start (bit-at bytes) (8 * i)) (getD bytes i 0 * 2 ^ (width c - 8)))
+      ≡ steps c 8 (bitXor (fold (enter c) start (bit-at bytes) (8 * i)) (getD bytes i 0 * 2 ^ (width c - 8)))
   register-more start bytes i hb = fold-byte (enter c) start bytes i ∙ enter-byte (fold (enter c) start (bit-at bytes) (8 * i)) (getD bytes i 0) hb

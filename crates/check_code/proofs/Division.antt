@@ -46,20 +46,20 @@ number-below n v h i l =
 number-raised : (v n i : ℕ) → of-number (v * 2 ^ n) i ≡ raised n (of-number v) i
 number-raised v n i =
     ⊎-elim
-      (λ l.
-        let e : n ≡ suc (n - i - 1) + i = omega arith in
-        let m : ℕ = n - i - 1 in
-        let even : v * 2 ^ n / 2 ^ i ≡ v * 2 ^ m * 2 =
-            ap (λ k. v * 2 ^ k / 2 ^ i) e
-            ∙ ap (λ x. x / 2 ^ i) (ap (λ x. v * x) (pow-add 2 (suc m) i) ∙ sym (mul-assoc v (2 ^ suc m) (2 ^ i)))
-            ∙ shl-shr (v * 2 ^ suc m) i ∙ ap (λ x. v * x) (pow-suc 2 m) ∙ sym (mul-assoc v (2 ^ m) 2) in
-        let none : v * 2 ^ n / 2 ^ i % 2 ≡ 0 = omega arith in
-        ap (λ x. eqb x 1) none ∙ sym (ap (λ t. t && of-number v (i - n)) (lt-leb n i l)))
-      (λ l.
-        let e : i ≡ n + (i - n) = omega arith in
-        ap (λ x. eqb (x % 2) 1) (ap (λ k. v * 2 ^ n / 2 ^ k) e ∙ sym (shr-shr (v * 2 ^ n) n (i - n)) ∙ ap (λ x. x / 2 ^ (i - n)) (shl-shr v n))
-        ∙ sym (ap (λ t. t && of-number v (i - n)) (le-leb n i l)))
-      (cases-lt i n)
+    (λ l.
+    let e : n ≡ suc (n - i - 1) + i = omega arith in
+    let m : ℕ = n - i - 1 in
+    let even : v * 2 ^ n / 2 ^ i ≡ v * 2 ^ m * 2 =
+    ap (λ k. v * 2 ^ k / 2 ^ i) e
+    ∙ ap (λ x. x / 2 ^ i) (ap (λ x. v * x) (pow-add 2 (suc m) i) ∙ sym (mul-assoc v (2 ^ suc m) (2 ^ i)))
+    ∙ shl-shr (v * 2 ^ suc m) i ∙ ap (λ x. v * x) (pow-suc 2 m) ∙ sym (mul-assoc v (2 ^ m) 2) in
+    let none : v * 2 ^ n / 2 ^ i % 2 ≡ 0 = omega arith in
+    ap (λ x. eqb x 1) none ∙ sym (ap (λ t. t && of-number v (i - n)) (lt-leb n i l)))
+    (λ l.
+    let e : i ≡ n + (i - n) = omega arith in
+    ap (λ x. eqb (x % 2) 1) (ap (λ k. v * 2 ^ n / 2 ^ k) e ∙ sym (shr-shr (v * 2 ^ n) n (i - n)) ∙ ap (λ x. x / 2 ^ (i - n)) (shl-shr v n))
+    ∙ sym (ap (λ t. t && of-number v (i - n)) (le-leb n i l)))
+    (cases-lt i n)
 
 -- a digit times a number
 number-times : (g t i : ℕ) → t < 2 → of-number (g * t) i ≡ (eqb t 1 && of-number g i)
@@ -80,7 +80,7 @@ number-digits s h (suc n) (suc i) =
     let one : suc i ≡ 1 + i = omega arith in
     let half : append x (s n) / 2 ≡ x = omega (arith, append-is x (s n) (h n), h n) in
     let same : ltb (suc i) (suc n) ≡ ltb i n =
-        ⊎-elim (λ l. lt-ltb (suc i) (suc n) (omega arith) ∙ sym (lt-ltb i n l)) (λ l. le-ltb (suc i) (suc n) (omega arith) ∙ sym (le-ltb i n l)) (cases-lt i n) in
+    ⊎-elim (λ l. lt-ltb (suc i) (suc n) (omega arith) ∙ sym (lt-ltb i n l)) (λ l. le-ltb (suc i) (suc n) (omega arith) ∙ sym (le-ltb i n l)) (cases-lt i n) in
     ap (λ y. eqb (y % 2) 1) (ap (λ k. append x (s n) / 2 ^ k) one ∙ sym (shr-shr (append x (s n)) 1 i) ∙ ap (λ y. y / 2 ^ i) half)
     ∙ number-digits s h n i
     ∙ sym (ap₂ (λ t m. t && eqb (s m) 1) same (let e : suc n - suc (suc i) ≡ n - suc i = omega arith in e))
@@ -119,7 +119,7 @@ times-next t q p (suc i) =
     products-next t q p (suc i) i (omega arith)
     ∙ differs-comm (t && p (suc i)) (products q p (suc i - 1) i)
     ∙ ap (λ a. differs a (t && p (suc i)))
-        (ap (products q p (suc i - 1)) (sym e) ∙ sym (ap (λ b. b && times q p (suc i - 1)) (le-leb 1 (suc i) (omega arith))))
+    (ap (products q p (suc i - 1)) (sym e) ∙ sym (ap (λ b. b && times q p (suc i - 1)) (le-leb 1 (suc i) (omega arith))))
 
 times-none : (p : Polynomial) (n m : ℕ) → products (λ i. false) p n m ≡ false
 times-none p n zero = refl
@@ -163,8 +163,8 @@ module _ (c : Code) (from : ℕ) (s : ℕ → ℕ) where
   multiple-is (suc n) i =
       number-xor (2 * multiple n) (c .divisor * fallen n) i
       ∙ ap₂ differs
-          (ap (λ x. of-number x i) (mul-comm 2 (multiple n)) ∙ number-raised (multiple n) 1 i ∙ ap (λ b. leb 1 i && b) (multiple-is n (i - 1)))
-          (number-times (c .divisor) (fallen n) i (fallen-lt n))
+      (ap (λ x. of-number x i) (mul-comm 2 (multiple n)) ∙ number-raised (multiple n) 1 i ∙ ap (λ b. leb 1 i && b) (multiple-is n (i - 1)))
+      (number-times (c .divisor) (fallen n) i (fallen-lt n))
       ∙ sym (times-next (eqb (fallen n) 1) (quotient-of n) (of-number (c .divisor)) i)
 
   -- the start and the bits so far, each at its power
@@ -177,7 +177,7 @@ module _ (c : Code) (from : ℕ) (s : ℕ → ℕ) where
       let x : ℕ = fold append 0 s n in
       let w : ℕ = width c in
       let bit : s n * 2 ^ w ≡ 2 * (s n * 2 ^ c .top) =
-          ap (λ y. s n * y) (pow-suc 2 (c .top)) ∙ sym (mul-assoc (s n) (2 ^ c .top) 2) ∙ mul-comm (s n * 2 ^ c .top) 2 in
+      ap (λ y. s n * y) (pow-suc 2 (c .top)) ∙ sym (mul-assoc (s n) (2 ^ c .top) 2) ∙ mul-comm (s n * 2 ^ c .top) 2 in
       let front : from * 2 ^ suc n ≡ 2 * (from * 2 ^ n) = ap (λ y. from * y) (pow-suc 2 n) ∙ sym (mul-assoc from (2 ^ n) 2) ∙ mul-comm (from * 2 ^ n) 2 in
       ap₂ bitXor front (shl-xor (2 * x) (s n) w ∙ ap₂ bitXor (mul-assoc 2 x (2 ^ w)) bit)
       ∙ sym (xor-assoc (2 * (from * 2 ^ n)) (2 * (x * 2 ^ w)) (2 * (s n * 2 ^ c .top)))
@@ -208,12 +208,12 @@ check-is-remainder c sound from bytes h =
       quotient = quotient-of c from s n;
       bounded = quotient-below c from s n;
       equation = λ i.
-        ap₂ differs (sym (number-raised from n i))
+          ap₂ differs (sym (number-raised from n i))
           (ap (λ b. leb (width c) i && b) (sym (number-digits s (bit-at-lt bytes) n (i - width c))) ∙ sym (number-raised (fold append 0 s n) (width c) i))
-        ∙ sym (number-xor (from * 2 ^ n) (fold append 0 s n * 2 ^ width c) i)
-        ∙ ap (λ x. of-number x i) (divides c from s n)
-        ∙ number-xor (multiple c from s n) (register c from s n) i
-        ∙ ap₂ differs (multiple-is c from s n i) (ap (λ x. of-number x i) (sym left));
+          ∙ sym (number-xor (from * 2 ^ n) (fold append 0 s n * 2 ^ width c) i)
+          ∙ ap (λ x. of-number x i) (divides c from s n)
+          ∙ number-xor (multiple c from s n) (register c from s n) i
+          ∙ ap₂ differs (multiple-is c from s n i) (ap (λ x. of-number x i) (sym left));
       smaller = subst (λ x. Degree-below (width c) (of-number x)) (sym left)
-        (number-below (width c) (register c from s n) (enters-lt c sound from h s (bit-at-lt bytes) n));
+          (number-below (width c) (register c from s n) (enters-lt c sound from h s (bit-at-lt bytes) n));
     }

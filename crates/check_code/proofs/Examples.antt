@@ -15,9 +15,9 @@ last-amount c e0 n =
     let off : (i : ℕ) → (i ≡ 8 * n + 7 → ⊥) → s i ≡ 0 = λ i h. ap digit-of (ne-eqb i (8 * n + 7) h) in
     let m : 8 * suc n ≡ suc (8 * n + 7) = omega arith in
     ap₂ bitXor
-      (ap (fold (enter c) 0 s) m
-      ∙ ap₂ (enter c) (fold-zero (enter c) e0 s (8 * n + 7) (λ i l. off i (omega arith))) (ap digit-of (eq-eqb (8 * n + 7) (8 * n + 7) refl)))
-      (fold-zero append refl (λ j. s (8 * suc n + j)) (width c) (λ j l. off (8 * suc n + j) (omega arith)))
+    (ap (fold (enter c) 0 s) m
+    ∙ ap₂ (enter c) (fold-zero (enter c) e0 s (8 * n + 7) (λ i l. off i (omega arith))) (ap digit-of (eq-eqb (8 * n + 7) (8 * n + 7) refl)))
+    (fold-zero append refl (λ j. s (8 * suc n + j)) (width c) (λ j l. off (8 * suc n + j) (omega arith)))
     ∙ xor-zero-r (enter c 0 1)
 
 pub examples : Examples

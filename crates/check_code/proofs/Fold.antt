@@ -18,7 +18,7 @@ xor-swap a b c d =
 pub shl-xor : (a b k : ℕ) → bitXor a b * 2 ^ k ≡ bitXor (a * 2 ^ k) (b * 2 ^ k)
 shl-xor a b k =
     sym (ap₂ bitXor (sym (add-zero (a * 2 ^ k))) (sym (add-zero (b * 2 ^ k)))
-      ∙ xor-block k a b 0 0 (pow-pos k) (pow-pos k) ∙ add-zero (bitXor a b * 2 ^ k))
+    ∙ xor-block k a b 0 0 (pow-pos k) (pow-pos k) ∙ add-zero (bitXor a b * 2 ^ k))
 
 pub dbl-xor : (a b : ℕ) → 2 * bitXor a b ≡ bitXor (2 * a) (2 * b)
 dbl-xor a b = mul-comm 2 (bitXor a b) ∙ shl-xor a b 1 ∙ ap₂ bitXor (mul-comm a 2) (mul-comm b 2)
@@ -85,11 +85,11 @@ pub digits-same : (s t : ℕ → ℕ) → Bits s → Bits t → (n : ℕ) → fo
 digits-same s t hs ht zero e i l = omega arith
 digits-same s t hs ht (suc n) e i l =
     let e₂ : 2 * fold append 0 s n + s n ≡ 2 * fold append 0 t n + t n =
-        sym (append-is (fold append 0 s n) (s n) (hs n)) ∙ e ∙ append-is (fold append 0 t n) (t n) (ht n) in
+    sym (append-is (fold append 0 s n) (s n) (hs n)) ∙ e ∙ append-is (fold append 0 t n) (t n) (ht n) in
     let up : fold append 0 s n ≡ fold append 0 t n = omega (arith, hs n, ht n) in
     ⊎-elim (λ b. digits-same s t hs ht n up i b)
-      (λ b. let q : i ≡ n = omega arith in subst (λ m. s m ≡ t m) (sym q) (omega (arith, hs n, ht n)))
-      (cases-lt i n)
+    (λ b. let q : i ≡ n = omega arith in subst (λ m. s m ≡ t m) (sym q) (omega (arith, hs n, ht n)))
+    (cases-lt i n)
 
 pub double-fold : (v m : ℕ) → fold append v none m ≡ v * 2 ^ m
 double-fold v zero = sym (mul-one v)
@@ -104,6 +104,6 @@ digits-front s h m k =
     let t : ℕ → ℕ = λ j. s (m + j) in
     let low : fold append 0 t k < 2 ^ k = digits-lt t (λ j. h (m + j)) k in
     ap (λ y. y / 2 ^ k)
-      (fold-add append 0 s m k ∙ fold-apart append append-linear x t k ∙ ap (λ y. bitXor y (fold append 0 t k)) (double-fold x k)
-      ∙ xor-shifted x k (fold append 0 t k) low)
+    (fold-add append 0 s m k ∙ fold-apart append append-linear x t k ∙ ap (λ y. bitXor y (fold append 0 t k)) (double-fold x k)
+    ∙ xor-shifted x k (fold append 0 t k) low)
     ∙ high x k low

@@ -28,7 +28,7 @@ module _ (c : Code) where
   pub balance-cong : (v : ℕ) (s t : ℕ → ℕ) (n : ℕ) → ((i : ℕ) → i < 8 * n + width c → s i ≡ t i) → balance c v s n ≡ balance c v t n
   balance-cong v s t n h =
       ap₂ bitXor (fold-cong (enter c) v s t (8 * n) (λ i l. h i (omega arith)))
-        (fold-cong append 0 (λ j. s (8 * n + j)) (λ j. t (8 * n + j)) (width c) (λ i l. h (8 * n + i) (omega arith)))
+      (fold-cong append 0 (λ j. s (8 * n + j)) (λ j. t (8 * n + j)) (width c) (λ i l. h (8 * n + i) (omega arith)))
 
   pub combining : Combining c
   combining w u n =
@@ -43,7 +43,7 @@ module _ (c : Code) where
   unfolding start-of
   difference-is bytes check =
       ap₂ bitXor (fold-cong (enter c) (c .start % 2 ^ width c) (bit-at bytes) (bit-at (bytes ++ check)) (8 * length bytes) (λ i l. sym (bit-at-front bytes check i l)))
-        (fold-cong append 0 (bit-at check) (λ j. bit-at (bytes ++ check) (8 * length bytes + j)) (width c) (λ j l. sym (bit-at-back bytes check j)))
+      (fold-cong append 0 (bit-at check) (λ j. bit-at (bytes ++ check) (8 * length bytes + j)) (width c) (λ j l. sym (bit-at-back bytes check j)))
 
   -- each bit of the sector after the inversion
   bit-damaged : (w : BitSet) (bytes check : List ℕ) (i : ℕ) → i < 8 * length bytes + 8 * length check
@@ -54,16 +54,16 @@ module _ (c : Code) where
       let ys : List ℕ = inverted (from-bit n w) check in
       let same : 8 * length xs ≡ n = ap (λ m. 8 * m) (length-inverted w bytes) in
       ⊎-elim
-        (λ l.
-          bit-at-front xs ys i (omega arith) ∙ bit-inverted w bytes i l
-          ∙ ap (λ b. bitXor b (digit-of (w i))) (sym (bit-at-front bytes check i l)))
-        (λ l.
-          let j : ℕ = i - n in
-          let e : i ≡ n + j = omega arith in
-          let e₂ : i ≡ 8 * length xs + j = omega arith in
-          ap (bit-at (xs ++ ys)) e₂ ∙ bit-at-back xs ys j ∙ bit-inverted (from-bit n w) check j (omega arith)
-          ∙ ap₂ (λ b m. bitXor b (digit-of (w m))) (sym (bit-at-back bytes check j) ∙ ap (bit-at (bytes ++ check)) (sym e)) (sym e))
-        (cases-lt i n)
+      (λ l.
+      bit-at-front xs ys i (omega arith) ∙ bit-inverted w bytes i l
+      ∙ ap (λ b. bitXor b (digit-of (w i))) (sym (bit-at-front bytes check i l)))
+      (λ l.
+      let j : ℕ = i - n in
+      let e : i ≡ n + j = omega arith in
+      let e₂ : i ≡ 8 * length xs + j = omega arith in
+      ap (bit-at (xs ++ ys)) e₂ ∙ bit-at-back xs ys j ∙ bit-inverted (from-bit n w) check j (omega arith)
+      ∙ ap₂ (λ b m. bitXor b (digit-of (w m))) (sym (bit-at-back bytes check j) ∙ ap (bit-at (bytes ++ check)) (sym e)) (sym e))
+      (cases-lt i n)
 
   pub inverting : Sound c → Inverting c
   inverting sound w bytes check four =
@@ -86,7 +86,7 @@ pub four-held : (check : List ℕ) → getD check 0 0 < 256 → getD check 1 0 <
 four-held check a b d e =
     digits-more check 3 e
     ∙ ap (λ x. x * 256 + getD check 3 0) (digits-more check 2 d
-      ∙ ap (λ x. x * 256 + getD check 2 0) (digits-more check 1 b ∙ ap (λ x. x * 256 + getD check 1 0) (digits-more check 0 a)))
+    ∙ ap (λ x. x * 256 + getD check 2 0) (digits-more check 1 b ∙ ap (λ x. x * 256 + getD check 1 0) (digits-more check 0 a)))
     ∙ omega arith
 
 byte-above : (v k : ℕ) → v / 2 ^ (k + 8) * 256 + v / 2 ^ k % 256 ≡ v / 2 ^ k
@@ -109,6 +109,6 @@ module _ (c : Code) (sound : Sound c) where
       let e : width c + k ≡ 32 = omega arith in
       let small : r * 2 ^ k < 2 ^ 32 = subst (λ m. r * 2 ^ k < 2 ^ m) e (shl-lt (width c) k (check-lt bytes)) in
       let held : delivered-check c (check-bytes-of c bytes) ≡ r =
-          sym (digits-front (bit-at (check-bytes-of c bytes)) (bit-at-lt (check-bytes-of c bytes)) (width c) k)
-          ∙ ap (λ x. x / 2 ^ k) (ap (fold append 0 (bit-at (check-bytes-of c bytes))) e ∙ four-digits (r * 2 ^ k) small) ∙ shl-shr r k in
+      sym (digits-front (bit-at (check-bytes-of c bytes)) (bit-at-lt (check-bytes-of c bytes)) (width c) k)
+      ∙ ap (λ x. x / 2 ^ k) (ap (fold append 0 (bit-at (check-bytes-of c bytes))) e ∙ four-digits (r * 2 ^ k) small) ∙ shl-shr r k in
       ap (bitXor r) held ∙ xor-self r

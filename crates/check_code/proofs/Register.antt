@@ -32,8 +32,8 @@ module _ (c : Code) where
   pub step-xor : (a b : ℕ) → step c (bitXor a b) ≡ bitXor (step c a) (step c b)
   step-xor a b =
       ap₂ bitXor (dbl-xor a b)
-        (ap (λ x. c .divisor * x) (top-xor a b)
-        ∙ bit-mul (c .divisor) (a / 2 ^ c .top % 2) (b / 2 ^ c .top % 2) (mod-lt (a / 2 ^ c .top) (omega arith)) (mod-lt (b / 2 ^ c .top) (omega arith)))
+      (ap (λ x. c .divisor * x) (top-xor a b)
+      ∙ bit-mul (c .divisor) (a / 2 ^ c .top % 2) (b / 2 ^ c .top % 2) (mod-lt (a / 2 ^ c .top) (omega arith)) (mod-lt (b / 2 ^ c .top) (omega arith)))
       ∙ xor-swap (2 * a) (2 * b) (c .divisor * (a / 2 ^ c .top % 2)) (c .divisor * (b / 2 ^ c .top % 2))
 
   pub steps-xor : (n a b : ℕ) → steps c n (bitXor a b) ≡ bitXor (steps c n a) (steps c n b)
@@ -134,21 +134,21 @@ module _ (c : Code) (sound : Sound c) where
       let p : 2 ^ width c ≡ 2 ^ c .top * 2 = pow-suc 2 (c .top) in
       let pp : 2 ^ suc (width c) ≡ 2 ^ width c * 2 = pow-suc 2 (width c) in
       ⊎-elim (λ l. let e : step c v ≡ 2 * v = step-small c v l in omega arith)
-        (λ l.
-          let a : 2 * v ≡ 1 * 2 ^ width c + (2 * v - 2 ^ width c) = omega arith in
-          let b : g ≡ 1 * 2 ^ width c + (g - 2 ^ width c) = omega arith in
-          let al : 2 * v - 2 ^ width c < 2 ^ width c = omega arith in
-          let bl : g - 2 ^ width c < 2 ^ width c = omega arith in
-          let e : step c v ≡ bitXor (2 * v - 2 ^ width c) (g - 2 ^ width c) =
-              step-high v l h ∙ ap₂ bitXor a b ∙ xor-block (width c) 1 1 (2 * v - 2 ^ width c) (g - 2 ^ width c) al bl
-              ∙ ap (λ x. x + bitXor (2 * v - 2 ^ width c) (g - 2 ^ width c)) (zero-mul (2 ^ width c)) ∙ zero-add (bitXor (2 * v - 2 ^ width c) (g - 2 ^ width c)) in
-          omega (arith, e, xor-lt (width c) (2 * v - 2 ^ width c) (g - 2 ^ width c) al bl))
-        (cases-lt v (2 ^ c .top))
+      (λ l.
+      let a : 2 * v ≡ 1 * 2 ^ width c + (2 * v - 2 ^ width c) = omega arith in
+      let b : g ≡ 1 * 2 ^ width c + (g - 2 ^ width c) = omega arith in
+      let al : 2 * v - 2 ^ width c < 2 ^ width c = omega arith in
+      let bl : g - 2 ^ width c < 2 ^ width c = omega arith in
+      let e : step c v ≡ bitXor (2 * v - 2 ^ width c) (g - 2 ^ width c) =
+      step-high v l h ∙ ap₂ bitXor a b ∙ xor-block (width c) 1 1 (2 * v - 2 ^ width c) (g - 2 ^ width c) al bl
+      ∙ ap (λ x. x + bitXor (2 * v - 2 ^ width c) (g - 2 ^ width c)) (zero-mul (2 ^ width c)) ∙ zero-add (bitXor (2 * v - 2 ^ width c) (g - 2 ^ width c)) in
+      omega (arith, e, xor-lt (width c) (2 * v - 2 ^ width c) (g - 2 ^ width c) al bl))
+      (cases-lt v (2 ^ c .top))
 
   step-kernel : (v : ℕ) → v < 2 ^ width c → step c v ≡ 0 → v ≡ 0
   step-kernel v h e =
       ⊎-elim (λ l. omega (arith, step-small c v l))
-        (λ l. let q : 2 * v ≡ c .divisor = xor-none (2 * v) (c .divisor) (sym (step-high v l h) ∙ e) in omega (arith, sound .odd)) (cases-lt v (2 ^ c .top))
+      (λ l. let q : 2 * v ≡ c .divisor = xor-none (2 * v) (c .divisor) (sym (step-high v l h) ∙ e) in omega (arith, sound .odd)) (cases-lt v (2 ^ c .top))
 
   pub step-same : (v u : ℕ) → v < 2 ^ width c → u < 2 ^ width c → step c v ≡ step c u → v ≡ u
   step-same v u hv hu e =

@@ -53,32 +53,34 @@ first-bit : (w : BitSet) (n : ℕ) → ((i : ℕ) → i < n → w i ≡ false) �
 first-bit w zero = inl (λ i h. absurd (omega arith))
 first-bit w (suc n) =
     ⊎-elim
-      (λ nothing. ⊎-elim
-        (λ on. inr (n, omega arith, on, nothing))
-        (λ off. inl (λ i h. ⊎-elim (λ l. nothing i l) (λ l. let e : n ≡ i = omega arith in subst (λ m. w m ≡ false) e off) (cases-lt i n)))
-        (cases-bool (w n)))
-      (λ p. let inside = p .1 in inr (p .0, omega arith, p .2, p .3))
-      (first-bit w n)
+    (λ nothing. ⊎-elim
+    (λ on. inr (n, omega arith, on, nothing))
+    (λ off. inl (λ i h. ⊎-elim (λ l. nothing i l) (λ l. let e : n ≡ i = omega arith in subst (λ m. w m ≡ false) e off) (cases-lt i n)))
+    (cases-bool (w n)))
+    (λ p. let inside = p .1 in inr (p .0, omega arith, p .2, p .3))
+    (first-bit w n)
 
 pub starts : (reach bits : ℕ) (w : BitSet) → Span reach w bits → (a : ℕ) × Starts reach bits (clip bits w) a
 starts reach bits w b =
     ⊎-elim
-      (λ nothing. absurd (both-ways (w (b .some)) (nothing (b .some) (b .within)) (b .wrong)))
-      (λ p.
-        let a : ℕ = p .0 in
-        let al : a < bits = p .1 in
-        (a, record {
-          digits = clip-lt bits w;
-          inside = al;
-          first = clip-in bits w a al ∙ ap digit-of (p .2);
-          before = λ i h. clip-in bits w i (omega arith) ∙ ap digit-of (p .3 i h);
-          after = λ i h. ⊎-elim
+    (λ nothing. absurd (both-ways (w (b .some)) (nothing (b .some) (b .within)) (b .wrong)))
+    (λ p.
+    let a : ℕ = p .0 in
+    let al : a < bits = p .1 in (
+      a,
+      record {
+        digits = clip-lt bits w;
+        inside = al;
+        first = clip-in bits w a al ∙ ap digit-of (p .2);
+        before = λ i h. clip-in bits w i (omega arith) ∙ ap digit-of (p .3 i h);
+        after = λ i h. ⊎-elim
             (λ l. clip-in bits w i l
-              ∙ ap digit-of (⊎-elim (λ t. absurd (let x = b .near i l t in let y = b .near a al (p .2) in omega arith)) (λ f. f) (cases-bool (w i))))
+            ∙ ap digit-of (⊎-elim (λ t. absurd (let x = b .near i l t in let y = b .near a al (p .2) in omega arith)) (λ f. f) (cases-bool (w i))))
             (λ l. clip-out bits w i l) (cases-lt i bits);
-          past = λ i h. clip-out bits w i h;
-        }))
-      (first-bit w bits)
+        past = λ i h. clip-out bits w i h;
+      },
+    ))
+    (first-bit w bits)
 
 -- the pattern of a span, its first bit at the top
 abbrev pub pattern : ℕ → (ℕ → ℕ) → ℕ → ℕ
@@ -107,8 +109,8 @@ module _ (c : Code) where
         let inside = b .inside in
         let e : bits + reach ≡ a + suc reach + (bits - 1 - a) = omega arith in
         sym (fold-add (below c) 0 s bits reach
-          ∙ fold-cong (below c) (fold (below c) 0 s bits) (λ j. s (bits + j)) none reach (λ i l. b .past (bits + i) (omega arith))
-          ∙ below-none c (fold (below c) 0 s bits) reach)
+        ∙ fold-cong (below c) (fold (below c) 0 s bits) (λ j. s (bits + j)) none reach (λ i l. b .past (bits + i) (omega arith))
+        ∙ below-none c (fold (below c) 0 s bits) reach)
         ∙ ap (fold (below c) 0 s) e
         ∙ window (below c) (below-zero c) s a (suc reach) (bits - 1 - a) (b .before) (b .after)
         ∙ below-none c (fold (below c) 0 (λ j. s (a + j)) (suc reach)) (bits - 1 - a)
@@ -127,12 +129,12 @@ amount-shows c sound w n b e =
     let r : ℕ = pattern 5 s a in
     let fits : 5 ≤ width c = omega (arith, sound .least) in
     let gone : steps c (bits - 1 - a) r ≡ steps c (bits - 1 - a) 0 =
-        sym (padded c 4 fits bits s a (p .1)) ∙ ap (steps c 4) (sym (amount-below c w n) ∙ e) ∙ steps-zero c 4 ∙ sym (steps-zero c (bits - 1 - a)) in
+    sym (padded c 4 fits bits s a (p .1)) ∙ ap (steps c 4) (sym (amount-below c w n) ∙ e) ∙ steps-zero c 4 ∙ sym (steps-zero c (bits - 1 - a)) in
     let z : r ≡ 0 = steps-same c sound (bits - 1 - a) r 0 (pattern-fits c 4 fits s (clip-lt bits w) a) (pow-pos (width c)) gone in
     omega (arith, pattern-ge 4 s (clip-lt bits w) a (p .1 .first))
 
 pub burst-shows : (c : Code) → Sound c → Burst-shows c
 burst-shows c sound w bytes b e =
     amount-shows c sound w (length bytes) b
-      (sym (inverting c sound w bytes (check-bytes-of c bytes) refl
-        ∙ ap (λ x. bitXor x (amount-of c w (length bytes))) (whole c sound bytes)) ∙ e)
+    (sym (inverting c sound w bytes (check-bytes-of c bytes) refl
+    ∙ ap (λ x. bitXor x (amount-of c w (length bytes))) (whole c sound bytes)) ∙ e)

@@ -47,7 +47,7 @@ pub record Divided (c : Code) (from : ℕ) (bytes : List ℕ) : Type 0 where
   pub quotient : Polynomial
   pub bounded : Degree-below (8 * length bytes) quotient
   pub equation : (i : ℕ) → plus (raised (8 * length bytes) (of-number from)) (raised (width c) (of-bytes bytes)) i
-    ≡ plus (times quotient (of-number (c .divisor))) (of-number (remainder-of c from bytes)) i
+      ≡ plus (times quotient (of-number (c .divisor))) (of-number (remainder-of c from bytes)) i
   pub smaller : Degree-below (width c) (of-number (remainder-of c from bytes))
 
 -- the check is a remainder, whatever the bytes and whatever fits the register at the start

@@ -27,7 +27,7 @@ damaged-difference c w bytes check = difference-of c (inverted w bytes) (inverte
 -- inverting a set of bits xors the difference with the set's amount, which the set and the sector's length fix
 abbrev pub Inverting : Code → Type 0
 Inverting c = (w : BitSet) (bytes check : List ℕ) → length check ≡ 4
-  → damaged-difference c w bytes check ≡ bitXor (difference-of c bytes check) (amount-of c w (length bytes))
+    → damaged-difference c w bytes check ≡ bitXor (difference-of c bytes check) (amount-of c w (length bytes))
 
 -- the amounts of two sets combine by xor
 abbrev pub Combining : Code → Type 0
@@ -36,4 +36,4 @@ Combining c = (w u : BitSet) (n : ℕ) → amount-of c (both-of w u) n ≡ bitXo
 -- a burst among the bits that the code uses makes the difference of a sector that was written whole nonzero
 abbrev pub Burst-shows : Code → Type 0
 Burst-shows c = (w : BitSet) (bytes : List ℕ) → One-burst w (8 * length bytes + width c)
-  → damaged-difference c w bytes (check-bytes-of c bytes) ≡ 0 → ⊥
+    → damaged-difference c w bytes (check-bytes-of c bytes) ≡ 0 → ⊥

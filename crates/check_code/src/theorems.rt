@@ -8,5 +8,4 @@ pub fn theorems_stand()
     ensures crc { λ _. ⌜ Check-is-remainder crc-code ⌝ }
     ensures ecc { λ _. ⌜ Check-is-remainder ecc-code ⌝ }
     ensures examples { λ _. ⌜ Examples ⌝ }
-{
-}
+{}

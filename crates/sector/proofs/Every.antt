@@ -15,5 +15,5 @@ every-at test zero t i h = absurd (omega arith)
 every-at test (suc n) t i h =
     let parts = and-parts (every test n) (test n) t in
     ⊎-elim (λ l. every-at test n (parts .0) i l)
-      (λ l. let e : n ≡ i = omega arith in subst (λ m. test m ≡ true) e (parts .1))
-      (cases-lt i n)
+    (λ l. let e : n ≡ i = omega arith in subst (λ m. test m ≡ true) e (parts .1))
+    (cases-lt i n)

@@ -55,17 +55,17 @@ mask-at zero w j h = absurd (omega arith)
 mask-at (suc n) w j h =
     let d : digit-of (w n) < 2 = digit-lt (w n) in
     ⊎-elim
-      (λ l.
-        let e : suc n - 1 - j ≡ suc (n - 1 - j) = omega arith in
-        let half : (mask n w * 2 + digit-of (w n)) / 2 ≡ mask n w = omega arith in
-        ap (λ (k : ℕ). mask (suc n) w / 2 ^ k % 2) e
-        ∙ ap (λ (x : ℕ). x % 2) (shift-more (mask (suc n) w) (n - 1 - j) ∙ ap (λ (x : ℕ). x / 2 ^ (n - 1 - j)) half)
-        ∙ mask-at n w j l)
-      (λ l.
-        let q : j ≡ n = omega arith in
-        let e : suc n - 1 - j ≡ 0 = omega arith in
-        ap (λ (k : ℕ). mask (suc n) w / 2 ^ k % 2) e ∙ omega arith ∙ ap (λ (i : ℕ). digit-of (w i)) (sym q))
-      (cases-lt j n)
+    (λ l.
+    let e : suc n - 1 - j ≡ suc (n - 1 - j) = omega arith in
+    let half : (mask n w * 2 + digit-of (w n)) / 2 ≡ mask n w = omega arith in
+    ap (λ (k : ℕ). mask (suc n) w / 2 ^ k % 2) e
+    ∙ ap (λ (x : ℕ). x % 2) (shift-more (mask (suc n) w) (n - 1 - j) ∙ ap (λ (x : ℕ). x / 2 ^ (n - 1 - j)) half)
+    ∙ mask-at n w j l)
+    (λ l.
+    let q : j ≡ n = omega arith in
+    let e : suc n - 1 - j ≡ 0 = omega arith in
+    ap (λ (k : ℕ). mask (suc n) w / 2 ^ k % 2) e ∙ omega arith ∙ ap (λ (i : ℕ). digit-of (w i)) (sym q))
+    (cases-lt j n)
   where
     shift-more : (x k : ℕ) → x / 2 ^ suc k ≡ x / 2 / 2 ^ k
     shift-more x k = ap (λ (m : ℕ). x / 2 ^ m) (let e : suc k ≡ 1 + k = omega arith in e) ∙ sym (shr-shr x 1 k)
@@ -79,20 +79,20 @@ pub inverted-cong : (w u : BitSet) (bytes : List ℕ) → ((i : ℕ) → i < 8 *
 inverted-cong w u [] h = refl
 inverted-cong w u (b ∷ bytes) h =
     ap₂ (λ (m : ℕ) (bs : List ℕ). bitXor b m ∷ bs) (mask-cong 8 w u (λ i l. h i (omega arith)))
-      (inverted-cong (from-bit 8 w) (from-bit 8 u) bytes (λ i l. h (8 + i) (omega arith)))
+    (inverted-cong (from-bit 8 w) (from-bit 8 u) bytes (λ i l. h (8 + i) (omega arith)))
 
 pub inverted-none : (w : BitSet) (bytes : List ℕ) → ((i : ℕ) → i < 8 * length bytes → w i ≡ false) → inverted w bytes ≡ bytes
 inverted-none w [] h = refl
 inverted-none w (b ∷ bytes) h =
     ap₂ (λ (m : ℕ) (bs : List ℕ). bitXor b m ∷ bs) (mask-none 8 w (λ i l. h i (omega arith)))
-      (inverted-none (from-bit 8 w) bytes (λ i l. h (8 + i) (omega arith)))
+    (inverted-none (from-bit 8 w) bytes (λ i l. h (8 + i) (omega arith)))
     ∙ ap (λ (x : ℕ). x ∷ bytes) (xor-zero-r b)
 
 pub inverted-both : (w u : BitSet) (bytes : List ℕ) → inverted u (inverted w bytes) ≡ inverted (both-of w u) bytes
 inverted-both w u [] = refl
 inverted-both w u (b ∷ bytes) =
     ap₂ (λ (x : ℕ) (bs : List ℕ). x ∷ bs) (xor-assoc b (mask 8 w) (mask 8 u) ∙ ap (bitXor b) (mask-both 8 w u))
-      (inverted-both (from-bit 8 w) (from-bit 8 u) bytes)
+    (inverted-both (from-bit 8 w) (from-bit 8 u) bytes)
 
 -- inverting the same bits again gives the bytes back
 pub inverted-back : (w u : BitSet) (bytes : List ℕ) → ((i : ℕ) → i < 8 * length bytes → w i ≡ u i) → inverted u (inverted w bytes) ≡ bytes
@@ -103,23 +103,23 @@ pub bit-inverted : (w : BitSet) (bytes : List ℕ) (i : ℕ) → i < 8 * length 
 bit-inverted w [] i h = absurd (omega arith)
 bit-inverted w (b ∷ bytes) i h =
     ⊎-elim
-      (λ l.
-        let q : i / 8 ≡ 0 = omega arith in
-        let r : i % 8 ≡ i = omega arith in
-        let k : ℕ = 7 - i in
-        ap₂ (λ (x y : ℕ). getD (inverted w (b ∷ bytes)) x 0 / 2 ^ (7 - y) % 2) q r
-        ∙ ap (λ (x : ℕ). x % 2) (xor-shr b (mask 8 w) k) ∙ xor-mod (b / 2 ^ k) (mask 8 w / 2 ^ k) 1
-        ∙ ap (bitXor (b / 2 ^ k % 2)) (mask-at 8 w i l)
-        ∙ ap₂ (λ (x y : ℕ). bitXor (getD (b ∷ bytes) x 0 / 2 ^ (7 - y) % 2) (digit-of (w i))) (sym q) (sym r))
-      (λ l.
-        let j : ℕ = i - 8 in
-        let q : i / 8 ≡ suc (j / 8) = omega arith in
-        let r : i % 8 ≡ j % 8 = omega arith in
-        let e : 8 + j ≡ i = omega arith in
-        ap₂ (λ (x y : ℕ). getD (inverted w (b ∷ bytes)) x 0 / 2 ^ (7 - y) % 2) q r
-        ∙ bit-inverted (from-bit 8 w) bytes j (omega arith)
-        ∙ ap₂ bitXor (ap₂ (λ (x y : ℕ). getD (b ∷ bytes) x 0 / 2 ^ (7 - y) % 2) (sym q) (sym r)) (ap (λ (m : ℕ). digit-of (w m)) e))
-      (cases-lt i 8)
+    (λ l.
+    let q : i / 8 ≡ 0 = omega arith in
+    let r : i % 8 ≡ i = omega arith in
+    let k : ℕ = 7 - i in
+    ap₂ (λ (x y : ℕ). getD (inverted w (b ∷ bytes)) x 0 / 2 ^ (7 - y) % 2) q r
+    ∙ ap (λ (x : ℕ). x % 2) (xor-shr b (mask 8 w) k) ∙ xor-mod (b / 2 ^ k) (mask 8 w / 2 ^ k) 1
+    ∙ ap (bitXor (b / 2 ^ k % 2)) (mask-at 8 w i l)
+    ∙ ap₂ (λ (x y : ℕ). bitXor (getD (b ∷ bytes) x 0 / 2 ^ (7 - y) % 2) (digit-of (w i))) (sym q) (sym r))
+    (λ l.
+    let j : ℕ = i - 8 in
+    let q : i / 8 ≡ suc (j / 8) = omega arith in
+    let r : i % 8 ≡ j % 8 = omega arith in
+    let e : 8 + j ≡ i = omega arith in
+    ap₂ (λ (x y : ℕ). getD (inverted w (b ∷ bytes)) x 0 / 2 ^ (7 - y) % 2) q r
+    ∙ bit-inverted (from-bit 8 w) bytes j (omega arith)
+    ∙ ap₂ bitXor (ap₂ (λ (x y : ℕ). getD (b ∷ bytes) x 0 / 2 ^ (7 - y) % 2) (sym q) (sym r)) (ap (λ (m : ℕ). digit-of (w m)) e))
+    (cases-lt i 8)
 
 -- ---- one bit
 pub eqb-moved : (n k j i : ℕ) → n + j ≡ i → eqb k j ≡ eqb (n + k) i
@@ -138,18 +138,18 @@ pub inverted-one : (bytes : List ℕ) (i : ℕ) → i < 8 * length bytes
 inverted-one [] i h = absurd (omega arith)
 inverted-one (b ∷ bytes) i h =
     ⊎-elim
-      (λ l.
-        let q : i / 8 ≡ 0 = omega arith in
-        let r : i % 8 ≡ i = omega arith in
-        ap₂ (λ (x y : ℕ). set (b ∷ bytes) x (bitXor (getD (b ∷ bytes) x 0) (128 / 2 ^ y))) q r
-        ∙ ap₂ (λ (m : ℕ) (bs : List ℕ). bitXor b m ∷ bs) (sym (mask-one i l))
-            (sym (inverted-none (λ j. eqb (8 + j) i) bytes (λ j m. ne-eqb (8 + j) i (omega arith)))))
-      (λ l.
-        let j : ℕ = i - 8 in
-        let q : i / 8 ≡ suc (j / 8) = omega arith in
-        let r : i % 8 ≡ j % 8 = omega arith in
-        ap₂ (λ (x y : ℕ). set (b ∷ bytes) x (bitXor (getD (b ∷ bytes) x 0) (128 / 2 ^ y))) q r
-        ∙ ap₂ (λ (x : ℕ) (bs : List ℕ). x ∷ bs)
-            (sym (ap (bitXor b) (mask-none 8 (λ k. eqb k i) (λ k m. ne-eqb k i (omega arith))) ∙ xor-zero-r b))
-            (inverted-one bytes j (omega arith) ∙ inverted-cong (λ k. eqb k j) (λ k. eqb (8 + k) i) bytes (λ k m. eqb-moved 8 k j i (omega arith))))
-      (cases-lt i 8)
+    (λ l.
+    let q : i / 8 ≡ 0 = omega arith in
+    let r : i % 8 ≡ i = omega arith in
+    ap₂ (λ (x y : ℕ). set (b ∷ bytes) x (bitXor (getD (b ∷ bytes) x 0) (128 / 2 ^ y))) q r
+    ∙ ap₂ (λ (m : ℕ) (bs : List ℕ). bitXor b m ∷ bs) (sym (mask-one i l))
+    (sym (inverted-none (λ j. eqb (8 + j) i) bytes (λ j m. ne-eqb (8 + j) i (omega arith)))))
+    (λ l.
+    let j : ℕ = i - 8 in
+    let q : i / 8 ≡ suc (j / 8) = omega arith in
+    let r : i % 8 ≡ j % 8 = omega arith in
+    ap₂ (λ (x y : ℕ). set (b ∷ bytes) x (bitXor (getD (b ∷ bytes) x 0) (128 / 2 ^ y))) q r
+    ∙ ap₂ (λ (x : ℕ) (bs : List ℕ). x ∷ bs)
+    (sym (ap (bitXor b) (mask-none 8 (λ k. eqb k i) (λ k m. ne-eqb k i (omega arith))) ∙ xor-zero-r b))
+    (inverted-one bytes j (omega arith) ∙ inverted-cong (λ k. eqb k j) (λ k. eqb (8 + k) i) bytes (λ k m. eqb-moved 8 k j i (omega arith))))
+    (cases-lt i 8)

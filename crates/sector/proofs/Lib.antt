@@ -1,3 +1,4 @@
 pub mod Every
 pub mod Inverted
 pub mod Marked
+pub mod Sizes

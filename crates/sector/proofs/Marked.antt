@@ -39,13 +39,13 @@ marked-before f p i h = ap (λ (t : Bool). t && eqb (p / 2 ^ (i - f) % 2) 1) (lt
 marked-same : (f p q i : ℕ) → (f ≤ i → p / 2 ^ (i - f) % 2 ≡ q / 2 ^ (i - f) % 2) → marked f p i ≡ marked f q i
 marked-same f p q i h =
     ⊎-elim (λ l. marked-before f p i l ∙ sym (marked-before f q i l))
-      (λ l. ap (λ (x : ℕ). leb f i && eqb x 1) (h l)) (cases-lt i f)
+    (λ l. ap (λ (x : ℕ). leb f i && eqb x 1) (h l)) (cases-lt i f)
 
 -- ---- one digit more
 pub marked-none : (f p i : ℕ) → marked f (p % 1) i ≡ false
 marked-none f p i =
     ⊎-elim (λ l. marked-before f (p % 1) i l)
-      (λ l. ap₂ (λ (t : Bool) (x : ℕ). t && eqb x 1) (le-leb f i l) (digit-out p 0 (i - f) (omega arith))) (cases-lt i f)
+    (λ l. ap₂ (λ (t : Bool) (x : ℕ). t && eqb x 1) (le-leb f i l) (digit-out p 0 (i - f) (omega arith))) (cases-lt i f)
 
 elsewhere : (p k j : ℕ) → (j ≡ k → ⊥) → p % 2 ^ (k + 1) / 2 ^ j % 2 ≡ p % 2 ^ k / 2 ^ j % 2
 elsewhere p k j n =
@@ -58,22 +58,22 @@ marked-other f p k i n = marked-same f (p % 2 ^ (k + 1)) (p % 2 ^ k) i (λ l. el
 pub marked-off : (f p k i : ℕ) → (p / 2 ^ k % 2 ≡ 1 → ⊥) → marked f (p % 2 ^ (k + 1)) i ≡ marked f (p % 2 ^ k) i
 marked-off f p k i off =
     ⊎-elim
-      (λ e.
-        ap (marked f (p % 2 ^ (k + 1))) e ∙ marked-at f (p % 2 ^ (k + 1)) k
-        ∙ ap (λ (x : ℕ). eqb x 1) (digit-in p (k + 1) k (omega arith)) ∙ ne-eqb (p / 2 ^ k % 2) 1 off
-        ∙ sym (ap (marked f (p % 2 ^ k)) e ∙ marked-at f (p % 2 ^ k) k ∙ ap (λ (x : ℕ). eqb x 1) (digit-out p k k (omega arith))))
-      (λ n. marked-other f p k i n)
-      (cases-eq i (f + k))
+    (λ e.
+    ap (marked f (p % 2 ^ (k + 1))) e ∙ marked-at f (p % 2 ^ (k + 1)) k
+    ∙ ap (λ (x : ℕ). eqb x 1) (digit-in p (k + 1) k (omega arith)) ∙ ne-eqb (p / 2 ^ k % 2) 1 off
+    ∙ sym (ap (marked f (p % 2 ^ k)) e ∙ marked-at f (p % 2 ^ k) k ∙ ap (λ (x : ℕ). eqb x 1) (digit-out p k k (omega arith))))
+    (λ n. marked-other f p k i n)
+    (cases-eq i (f + k))
 
 pub marked-on : (f p k i : ℕ) → p / 2 ^ k % 2 ≡ 1 → differs (marked f (p % 2 ^ k) i) (eqb i (f + k)) ≡ marked f (p % 2 ^ (k + 1)) i
 marked-on f p k i on =
     ⊎-elim
-      (λ e.
-        ap₂ differs (ap (marked f (p % 2 ^ k)) e ∙ marked-at f (p % 2 ^ k) k ∙ ap (λ (x : ℕ). eqb x 1) (digit-out p k k (omega arith))) (eq-eqb i (f + k) e)
-        ∙ sym (ap (marked f (p % 2 ^ (k + 1))) e ∙ marked-at f (p % 2 ^ (k + 1)) k
-          ∙ ap (λ (x : ℕ). eqb x 1) (digit-in p (k + 1) k (omega arith)) ∙ eq-eqb (p / 2 ^ k % 2) 1 on))
-      (λ n. ap (differs (marked f (p % 2 ^ k) i)) (ne-eqb i (f + k) n) ∙ kept (marked f (p % 2 ^ k) i) ∙ sym (marked-other f p k i n))
-      (cases-eq i (f + k))
+    (λ e.
+    ap₂ differs (ap (marked f (p % 2 ^ k)) e ∙ marked-at f (p % 2 ^ k) k ∙ ap (λ (x : ℕ). eqb x 1) (digit-out p k k (omega arith))) (eq-eqb i (f + k) e)
+    ∙ sym (ap (marked f (p % 2 ^ (k + 1))) e ∙ marked-at f (p % 2 ^ (k + 1)) k
+    ∙ ap (λ (x : ℕ). eqb x 1) (digit-in p (k + 1) k (omega arith)) ∙ eq-eqb (p / 2 ^ k % 2) 1 on))
+    (λ n. ap (differs (marked f (p % 2 ^ k) i)) (ne-eqb i (f + k) n) ∙ kept (marked f (p % 2 ^ k) i) ∙ sym (marked-other f p k i n))
+    (cases-eq i (f + k))
   where
     kept : (b : Bool) → differs b false ≡ b
     kept true = refl

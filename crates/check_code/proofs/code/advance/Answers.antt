@@ -22,9 +22,10 @@ loop-byte-again g c =
     let bytes = c .args .bytes .now in
     let b : ℕ = getD bytes (l .byte-index) 0 in
     let small : l .register < 2 ^ 32 = l .inv .0 in
-    let byte : b < 256 = search needs in
-    (xor-lt 32 (l .register * 2 ^ 8 % 2 ^ 32) (c .shifted .result) (omega arith) (c .shifted .ok)
-    , ap (bitXor (l .register * 2 ^ 8 % 2 ^ 32)) (c .shifted .ensures)
-    ∙ byte-step code (l .register) b small byte
-    ∙ ap (λ x. steps (aligned code) 8 (bitXor x (b * 2 ^ 24))) (l .inv .1)
-    ∙ sym (register-more (aligned code) (lit≤ tt) (c .args .register) bytes (l .byte-index) byte))
+    let byte : b < 256 = search needs in (
+      xor-lt 32 (l .register * 2 ^ 8 % 2 ^ 32) (c .shifted .result) (omega arith) (c .shifted .ok),
+      ap (bitXor (l .register * 2 ^ 8 % 2 ^ 32)) (c .shifted .ensures)
+          ∙ byte-step code (l .register) b small byte
+          ∙ ap (λ x. steps (aligned code) 8 (bitXor x (b * 2 ^ 24))) (l .inv .1)
+          ∙ sym (register-more (aligned code) (lit≤ tt) (c .args .register) bytes (l .byte-index) byte),
+    )

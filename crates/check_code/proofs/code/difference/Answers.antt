@@ -21,6 +21,6 @@ returns g c =
     let most = g .C·CheckCode·met .sound .most in
     let all : 32 ≡ width code + k = omega arith in
     let held : c .from-be-bytes .result ≡ fold append 0 (bit-at check) (width code + k) =
-        c .from-be-bytes .ensures ∙ sym (four-held check (search needs) (search needs) (search needs) (search needs)) ∙ ap (fold append 0 (bit-at check)) all in
+    c .from-be-bytes .ensures ∙ sym (four-held check (search needs) (search needs) (search needs) (search needs)) ∙ ap (fold append 0 (bit-at check)) all in
     ap₂ bitXor (c .remainder .ensures ∙ ap (λ x. remainder-of code x bytes) (c .start .ensures))
-      (ap₂ (λ x w. x / 2 ^ (32 - w)) held (c .width .ensures) ∙ digits-front (bit-at check) (bit-at-lt check) (width code) k)
+    (ap₂ (λ x w. x / 2 ^ (32 - w)) held (c .width .ensures) ∙ digits-front (bit-at check) (bit-at-lt check) (width code) k)

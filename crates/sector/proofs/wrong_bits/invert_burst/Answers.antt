@@ -25,10 +25,10 @@ loop-k-again c =
     let after : BitSet = λ i. marked (b .first) (b .pattern % 2 ^ (k + 1)) (start + i) in
     let bit : BitSet = λ i. eqb (start + i) (b .first + k) in
     elim (c .if-burst-k-eq1 .came) [
-      then-burst-k-eq1 w ↦
-        w .part-is ∙ w .invert-bit .ensures ∙ ap (inverted bit) (c .loop-k .inv) ∙ inverted-both before bit bytes
-        ∙ inverted-cong (both-of before bit) after bytes (λ i l. marked-on (b .first) (b .pattern) k (start + i) (w .if-burst-k-eq1 .taken))
-    | else-burst-k-eq1 w ↦
-        w .part-is ∙ c .loop-k .inv
-        ∙ inverted-cong before after bytes (λ i l. sym (marked-off (b .first) (b .pattern) k (start + i) (w .if-burst-k-eq1 .left)))
+      | then-burst-k-eq1 w ↦
+          w .part-is ∙ w .invert-bit .ensures ∙ ap (inverted bit) (c .loop-k .inv) ∙ inverted-both before bit bytes
+          ∙ inverted-cong (both-of before bit) after bytes (λ i l. marked-on (b .first) (b .pattern) k (start + i) (w .if-burst-k-eq1 .taken))
+      | else-burst-k-eq1 w ↦
+          w .part-is ∙ c .loop-k .inv
+          ∙ inverted-cong before after bytes (λ i l. sym (marked-off (b .first) (b .pattern) k (start + i) (w .if-burst-k-eq1 .left)))
     ]

@@ -1,0 +1,6 @@
+mod First
+mod Apart
+mod Patterns
+mod Shift
+mod Searching
+mod Restoring

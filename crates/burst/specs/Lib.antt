@@ -1,0 +1,3 @@
+pub mod Search
+pub mod Apart
+pub mod Mending
