@@ -1,6 +1,6 @@
-mod First
-mod Apart
-mod Patterns
-mod Shift
-mod Searching
-mod Restoring
+pub mod First
+pub mod Apart
+pub mod Patterns
+pub mod Shift
+pub mod Searching
+pub mod Restoring

@@ -7,7 +7,7 @@ use native.Mathlib.Nat.{add-zero, div-eq-of-lt, div-one, mod-lt, pow-suc}
 use native.Mathlib.Omega.{arith}
 use lib.Dec.{leb, eqb}
 use lib.Pow.{pow-mono, pow-pos, shr-shr}
-use Rattle.std.proofs.shelf.Tests.{cases-lt, cases-bool, both-ways, leb-true, and-parts}
+use Rattle.std.proofs.shelf.Tests.{cases-lt, cases-order, cases-bool, both-ways, leb-true, and-parts}
 use Rattle.sector.specs.Bits.{BitSet, digit-of, marked, One-burst}
 use Rattle.sector.proofs.Marked.{digit-in, marked-at, marked-before}
 use Rattle.check_code.specs.Code.{append, fold}
@@ -132,3 +132,16 @@ named bits w b =
           (cases-lt i a)
           ∙ clip-in bits w i l);
     }
+
+-- a burst has one name only
+pub named-once : (f p g q : ℕ) → p % 2 ≡ 1 → q % 2 ≡ 1 → p < 32 → q < 32 → ((i : ℕ) → marked f p i ≡ marked g q i) → (f ≡ g) × (p ≡ q)
+named-once f p g q op oq lp lq same =
+    let first : f ≡ g =
+    ⊎-elim (λ e. e)
+    (λ o. absurd (⊎-elim
+    (λ l. omega (arith, sym (ap digit-of (same f ∙ marked-before g q f l)) ∙ marked-first f p op))
+    (λ l. omega (arith, sym (ap digit-of (sym (same g) ∙ marked-before f p g l)) ∙ marked-first g q oq)) o))
+    (cases-order f g) in
+    let digit : (j : ℕ) → p / 2 ^ j % 2 ≡ q / 2 ^ j % 2 =
+    λ j. sym (marked-digit f p j) ∙ ap digit-of (same (f + j)) ∙ ap (λ x. digit-of (marked g q (x + j))) first ∙ marked-digit g q j in
+    (first, omega (arith, digit 0, digit 1, digit 2, digit 3, digit 4))

@@ -1,34 +1,42 @@
 -- Mending a delivered sector.
 use mathlib.Core.Path.{_≡_}
-use mathlib.Core.Bool.{false}
+use mathlib.Core.Bool.{false, cond}
 use mathlib.Core.List.{List}
 use mathlib.Core.Logic.{_⊎_}
 use Prim.Native.Nat.{ℕ, _+_, _*_, _<_}
+use lib.Dec.{eqb}
 use lib.ListN.{length}
+use Rattle.std.specs.declared.option.Option.{Option}
 use Rattle.std.specs.declared.option.Option.the-variants.{Some, None}
+use Rattle.sector.specs.declared.wrong_bits.Burst.{Burst}
 use Rattle.sector.specs.declared.size.SizeCode.{SizeCode}
-use Rattle.sector.specs.Sizes.{bytes-of, No-size}
+use Rattle.sector.specs.Sizes.{bytes-of}
 use Rattle.sector.specs.Bits.{BitSet, from-bit, inverted, One-burst}
 use Rattle.check_code.specs.Code.{ecc-code, check-bytes-of, difference-of}
 use Rattle.burst.specs.declared.mending.Correction.{Correction}
 use Rattle.burst.specs.declared.mending.Correction.the-variants.{Intact, Mended, Uncorrectable, UnknownSize}
 use Rattle.burst.specs.Search.{bits-of, set-of, first-burst}
 
--- What a correction answers, and what it leaves in the bytes. The four cases shut each other out.
-abbrev pub Corrected : List ℕ → List ℕ → Correction → List ℕ → Type 0
--- the check fits the bytes
-Corrected bytes check Intact after =
-    (size : SizeCode) × (bytes-of size ≡ length bytes) × (difference-of ecc-code bytes check ≡ 0) × (after ≡ bytes)
--- it does not, and the first burst that has its amount is inverted
-Corrected bytes check (Mended b) after =
-    (size : SizeCode) × (bytes-of size ≡ length bytes) × (difference-of ecc-code bytes check ≡ 0 → ⊥)
-    × (first-burst size (difference-of ecc-code bytes check) ≡ Some b) × (after ≡ inverted (set-of b) bytes)
--- it does not, and no burst has its amount
-Corrected bytes check Uncorrectable after =
-    (size : SizeCode) × (bytes-of size ≡ length bytes) × (difference-of ecc-code bytes check ≡ 0 → ⊥)
-    × (first-burst size (difference-of ecc-code bytes check) ≡ None) × (after ≡ bytes)
--- sectors do not come in this length
-Corrected bytes check UnknownSize after = No-size (length bytes) × (after ≡ bytes)
+-- what is made of a burst that was found, or not found
+abbrev pub by-burst : Option Burst → Correction
+by-burst (Some b) = Mended b
+by-burst None = Uncorrectable
+
+-- what a correction answers at a difference: the check fits the bytes, or it goes by the first burst
+abbrev pub judged : SizeCode → ℕ → Correction
+judged size difference = cond (eqb difference 0) Intact (by-burst (first-burst size difference))
+
+-- what a correction answers; where sectors do not come in this length, it is refused
+abbrev pub correction : Option SizeCode → List ℕ → List ℕ → Correction
+correction (Some size) bytes check = judged size (difference-of ecc-code bytes check)
+correction None bytes check = UnknownSize
+
+-- what an answer leaves in the bytes: a burst that is answered is inverted
+abbrev pub mended : Correction → List ℕ → List ℕ
+mended Intact bytes = bytes
+mended (Mended b) bytes = inverted (set-of b) bytes
+mended Uncorrectable bytes = bytes
+mended UnknownSize bytes = bytes
 
 -- no bit of a sector is wrong, or those that are make one burst
 abbrev pub At-most-one-burst : BitSet → ℕ → Type 0

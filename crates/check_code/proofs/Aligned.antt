@@ -41,10 +41,8 @@ module _ (c : Code) (most : width c ≤ 32) where
       ap (λ m. from * 2 ^ u % 2 ^ m) e ∙ mod-pow-add (from * 2 ^ u) (width c) u
       ∙ ap₂ (λ x y. x % 2 ^ width c * 2 ^ u + y) (shl-shr from u) (mul-mod-left from (2 ^ u)) ∙ add-zero (from % 2 ^ width c * 2 ^ u)
 
-  -- up, through the bits, and down again
+  -- the remainder, moved up
   pub remainder-aligned : (from : ℕ) (s : ℕ → ℕ) (n : ℕ)
-      → fold (enter (aligned c)) (from * 2 ^ (32 - width c) % 2 ^ 32) s n / 2 ^ (32 - width c) ≡ fold (enter c) (from % 2 ^ width c) s n
+      → fold (enter (aligned c)) (from * 2 ^ (32 - width c) % 2 ^ 32) s n ≡ fold (enter c) (from % 2 ^ width c) s n * 2 ^ (32 - width c)
   remainder-aligned from s n =
-      ap (λ x. fold (enter (aligned c)) x s n / 2 ^ (32 - width c)) (moved-up from)
-      ∙ ap (λ x. x / 2 ^ (32 - width c)) (fold-aligned (from % 2 ^ width c) s n)
-      ∙ shl-shr (fold (enter c) (from % 2 ^ width c) s n) (32 - width c)
+      ap (λ x. fold (enter (aligned c)) x s n) (moved-up from) ∙ fold-aligned (from % 2 ^ width c) s n

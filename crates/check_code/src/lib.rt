@@ -5,6 +5,7 @@
 // of a division of polynomials.
 mod code;
 mod codes;
+mod tables;
 mod theorems;
 
 pub use code::CheckCode;

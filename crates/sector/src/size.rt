@@ -1,8 +1,6 @@
 // The four sector sizes and the codes that name them.
 ghost use mathlib.Core.Path.{_≡_};
-ghost use Prim.Native.Nat.{ℕ, _<_};
-ghost use Rattle.std.specs.Options.{Cases as BySome};
-ghost use Rattle.sector.specs.Sizes.{bytes-of, number-of, No-size};
+ghost use Rattle.sector.specs.Sizes.{bytes-of, number-of, size-with, size-numbered};
 
 // A size code, by the bytes that a sector of it has.
 #[derive(Clone, Copy, PartialEq, Eq, Debug)]
@@ -16,7 +14,7 @@ pub enum SizeCode {
 impl SizeCode {
     // The size that a code names, if it is one of the four.
     pub fn from_number(number: u8) -> Option<SizeCode>
-        ensures { λ r. ⌜ BySome r (3 < number) (λ size. number-of size ≡ number) ⌝ }
+        ensures { λ r. ⌜ r ≡ size-numbered number ⌝ }
     {
         match number {
             0 => Some(SizeCode::Bytes256),
@@ -29,7 +27,7 @@ impl SizeCode {
 
     // The size of a sector that has so many bytes, if sectors come in it.
     pub fn from_length(length: usize) -> Option<SizeCode>
-        ensures { λ r. ⌜ BySome r (No-size length) (λ size. bytes-of size ≡ length) ⌝ }
+        ensures { λ r. ⌜ r ≡ size-with length ⌝ }
     {
         match length {
             256 => Some(SizeCode::Bytes256),

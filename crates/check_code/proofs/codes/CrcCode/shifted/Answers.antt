@@ -1,9 +1,0 @@
--- The table is the list of what eight shifts make of each byte.
-use borrow.Author.Needs.{needs}
-use Rattle.check_code.specs.Code.{crc-code}
-use Rattle.check_code.specs.Aligned.{aligned}
-use Rattle.check_code.proofs.Table.{table-at}
-use Rattle.check_code.proofs.codes.CrcCode.shifted.Needs as need
-
-pub returns : need.returns
-returns c = table-at (aligned crc-code) (c .args .byte) (search needs)

@@ -1,0 +1,3 @@
+mod Texts
+mod Carrying
+mod Sectors
