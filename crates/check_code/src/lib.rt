@@ -16,4 +16,5 @@ pub use codes::Crc;
 pub use codes::CrcCode;
 pub use codes::Ecc;
 pub use codes::EccCode;
+pub use theorems::laws_stand;
 pub use theorems::theorems_stand;
