@@ -2,7 +2,7 @@
 use mathlib.Core.Path.{_≡_}
 use mathlib.Core.List.{List, []}
 use Prim.Native.Nat.{ℕ, _<_, _≤_}
-use lib.ListN.{length}
+use lib.ListN.{length, getD}
 use Rattle.std.specs.shelf.Lists.{All}
 use Rattle.sector.specs.Sizes.{bytes-of}
 use Rattle.drive.specs.Model.{Sector, DriveModel}
@@ -19,10 +19,17 @@ pub record Limits (most : Measures) : Type 0 where
   pub some-head : 1 ≤ most .heads
   pub few-heads : most .heads ≤ 8
 
--- a sector is as long as its size code says, and has four check bytes
+-- nothing but bytes
+abbrev pub Bytes : List ℕ → Type 0
+Bytes xs = (i : ℕ) → getD xs i 0 < 256
+
+-- a sector's number is a byte, it has as many bytes as its size code says, and four check bytes
 pub record Whole (s : Sector) : Type 0 where
+  pub numbered : s .number < 256
   pub bytes-long : length (s .bytes) ≡ bytes-of (s .size)
+  pub bytes-are : Bytes (s .bytes)
   pub check-long : length (s .check) ≡ 4
+  pub check-are : Bytes (s .check)
 
 -- what holds of a drive of such a make
 pub record Bounded (most : Measures) (d : DriveModel) : Type 0 where

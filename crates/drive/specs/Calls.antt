@@ -99,11 +99,11 @@ write-answer d head number size =
     writing.NotReady
 
 -- the drive after a write reached the sector at slot k: it has the buffer's first bytes, as many as its size, and the check bytes
-abbrev pub written : DriveModel → ℕ → ℕ → SizeCode → SectorBuffer → ℕ → DriveModel
-written d head number size b k =
+abbrev pub written : DriveModel → ℕ → SizeCode → SectorBuffer → ℕ → DriveModel
+written d head size b k =
     with-track d head
     (set (track-under d head) k (rewritten (getD (track-under d head) k no-sector) (take (bytes-of size) (b .bytes)) (b .check)))
-    (sector head number size (take (bytes-of size) (b .bytes)) (b .check))
+    (sector head k (take (bytes-of size) (b .bytes)) (b .check))
 
 unfoldable pub after-write : DriveModel → ℕ → ℕ → SizeCode → SectorBuffer → DriveModel
 after-write d head number size b =
@@ -112,7 +112,7 @@ after-write d head number size b =
     (attempted (shown d head number) (track-under d head) number size
     (attempted-at d head number)
     (attempted-at d head number)
-    (written (attempted-at d head number) head number size b)))
+    (written (attempted-at d head number) head size b)))
     d
 
 -- ---- formats

@@ -71,8 +71,8 @@ used-up o cylinder head number c h n k =
 -- ---- the memory behind the tracks
 -- What a done write or format puts on a track of the cylinder under the head.
 pub data Change : Type 0 where
-  -- head, number and size code of the sector meant, its new bytes and check bytes
-  sector : ℕ → ℕ → SizeCode → List ℕ → List ℕ → Change
+  -- head and slot of the sector, its new bytes and check bytes
+  sector : ℕ → ℕ → List ℕ → List ℕ → Change
   -- head, the new sectors' IDs, their size code and check bytes
   track : ℕ → List SectorId → SizeCode → List ℕ → Change
 
