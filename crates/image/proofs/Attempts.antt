@@ -18,12 +18,14 @@ use Rattle.sector.specs.Sizes.{bytes-of}
 use Rattle.sector.specs.declared.size.SizeCode.{SizeCode}
 use Rattle.sector.proofs.Inverted.{inverted-none}
 use Rattle.drive.specs.declared.buffer.SectorBuffer.{SectorBuffer}
-use Rattle.drive.specs.Model.{Sector, intact, rewritten}
-use Rattle.drive.specs.Calls.{delivered}
+use Rattle.drive.specs.Model.{Sector, no-sector, intact}
+use Rattle.drive.specs.Calls.{on-slot, delivered}
 use Rattle.image.specs.Parts.{part, over}
 use Rattle.image.specs.Record.{count-in, code-in, size-in, size-numbered, number-at, mark-at, bad-mark, marks-fit, formatted, sector-at, sectors-in, track-in, Slot, with-sector}
 use Rattle.image.proofs.Windows.{length-part, length-over, getD-over-outside, part-over-other, part-over-same, put-over}
-use Rattle.image.proofs.Tracks.{shape-of, held}
+use Rattle.image.proofs.Tracks.{held-at}
+use Rattle.std.specs.declared.option.Option.{Option}
+use Rattle.std.specs.declared.option.Option.the-variants.{Some, None}
 
 -- slots of one size stand apart
 pub apart : (i k z : ℕ) → i < k → i * z + z ≤ k * z
@@ -64,3 +66,9 @@ module _ (r : List ℕ) (size : SizeCode) (k : ℕ) (s : Slot r size k) where
       ∙ ap (over (130 + 4 * k) ys) (put-over (386 + k * n) _ xs r (omega arith) (omega arith))
       ∙ ap (λ (m : ℕ). over (130 + 4 * k) ys (over (386 + k * m) xs r)) (sym lx)
       ∙ ap₂ (λ (u v : List ℕ). over (130 + 4 * k) v (over (386 + k * length u) u r)) e ey
+
+-- what an attempt comes to where the sector meant is in slot k
+pub on-found : {A : Type 0} (r : List ℕ) (size : SizeCode) (k : ℕ) (o : Option ℕ) (ss : List Sector) (missing marked : A) (good : ℕ → A) → o ≡ Some k → ss ≡ track-in r → Slot r size k → on-slot o ss missing marked good ≡ cond (eqb (mark-at r k) bad-mark) marked (good k)
+on-found r size k o ss missing marked good eo es s =
+    ap₂ (λ (x : Option ℕ) (y : List Sector). on-slot x y missing marked good) eo es
+    ∙ ap (λ (x : Sector). cond (x .bad) marked (good k)) (held-at r k no-sector (s .whole) (s .below))

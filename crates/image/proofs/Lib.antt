@@ -4,3 +4,7 @@ pub mod Tracks
 pub mod Attempts
 pub mod Formats
 pub mod Writes
+pub mod Frames
+pub mod Cuts
+pub mod Calls
+pub mod FormatCall

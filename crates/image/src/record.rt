@@ -92,6 +92,7 @@ pub fn write_slot(track: &mut [u8], slot: usize, size: SizeCode, buffer: &Sector
     ensures answer { λ r. ⌜ r ≡ cond (eqb (mark-at (now (track .entry)) slot) bad-mark) writing.BadBlock writing.Written ⌝ }
     ensures after { λ _. ⌜ now (track .exit) ≡ cond (eqb (mark-at (now (track .entry)) slot) bad-mark) (now (track .entry)) (with-sector slot (take (bytes-of size) (now (buffer .entry) .bytes)) (now (buffer .entry) .check) (now (track .entry))) ⌝ }
     ensures bytes { λ _. ⌜ Bytes (now (track .exit)) ⌝ }
+    ensures full { λ _. ⌜ (length (now (buffer .entry) .bytes) ≡ 1024) × (length (now (buffer .entry) .check) ≡ 4) ⌝ }
 {
     if track[3 + 2 * slot] == BAD_MARK {
         return Writing::BadBlock;
