@@ -53,7 +53,7 @@ module _ (r : List ℕ) (size : SizeCode) (k : ℕ) (s : Slot r size k) where
   read-is b xs ys ex ey n en =
       let bs = sector-at r k .bytes in
       let e : xs ++ drop n (b .bytes) ≡ inverted (λ i. false) bs ++ drop (length bs) (b .bytes) =
-        ap₂ (λ (t : List ℕ) (m : ℕ). t ++ drop m (b .bytes)) (ex ∙ sym sector-bytes ∙ sym (inverted-none (λ i. false) bs (λ i h. refl))) (en ∙ sym sector-long) in
+      ap₂ (λ (t : List ℕ) (m : ℕ). t ++ drop m (b .bytes)) (ex ∙ sym sector-bytes ∙ sym (inverted-none (λ i. false) bs (λ i h. refl))) (en ∙ sym sector-long) in
       let f : ys ≡ inverted (λ i. false) (part (130 + 4 * k) 4 r) = ey ∙ sym (inverted-none (λ i. false) _ (λ i h. refl)) in
       λ j. record { bytes = e j; check = f j }
 

@@ -77,23 +77,23 @@ module _ (s : TrackStore) (head : ℕ) where
       let new : List ℕ = changed change record-under in
       let start : ℕ = record-start (s .heads) (s .capacity) (s .cylinder) head in
       let tracks : tracks-of (s .cylinders) (s .heads) (s .capacity) (over start new memory) ≡ replaced (tracks-of (s .cylinders) (s .heads) (s .capacity) memory) (s .cylinder) head ss =
-        tracks-after (s .cylinders) (s .heads) (s .capacity) (s .cylinder) head memory new (s .whole) (s .inside) below long
-        ∙ ap (replaced (tracks-of (s .cylinders) (s .heads) (s .capacity) memory) (s .cylinder) head) holds in
+      tracks-after (s .cylinders) (s .heads) (s .capacity) (s .cylinder) head memory new (s .whole) (s .inside) below long
+      ∙ ap (replaced (tracks-of (s .cylinders) (s .heads) (s .capacity) memory) (s .cylinder) head) holds in
       let bytes : over start new memory ≡ image-layout (s .heads) (s .capacity) (s .cylinder) change memory =
-        ap (λ (h : ℕ). over (record-start (s .heads) (s .capacity) (s .cylinder) h) (changed change (record-of (s .heads) (s .capacity) (s .cylinder) h memory)) memory) (sym same) in
+      ap (λ (h : ℕ). over (record-start (s .heads) (s .capacity) (s .cylinder) h) (changed change (record-of (s .heads) (s .capacity) (s .cylinder) h memory)) memory) (sym same) in
       λ j.
-        record {
-          cylinders = s .cylinders;
-          heads = s .heads;
-          capacity = s .capacity;
-          ready = true;
-          protected = s .protected;
-          cylinder = s .cylinder;
-          track = tracks j;
-          outlook = undamaged;
-          memory = bytes j;
-          layout = image-layout (s .heads) (s .capacity);
-        }
+      record {
+        cylinders = s .cylinders;
+        heads = s .heads;
+        capacity = s .capacity;
+        ready = true;
+        protected = s .protected;
+        cylinder = s .cylinder;
+        track = tracks j;
+        outlook = undamaged;
+        memory = bytes j;
+        layout = image-layout (s .heads) (s .capacity);
+      }
 
   -- a protected image refuses, and stays
   pub write-protected : s .protected ≡ true → (number : ℕ) (size : SizeCode) → writing.Protected ≡ write-answer (store-model s) head number size
@@ -151,7 +151,7 @@ module _ (s : TrackStore) (head : ℕ) where
       hand-there b new e =
           e
           ∙ ap (λ (x : Sector). cond (eqb (mark-at r k) bad-mark) b (delivered intact x b))
-              (sym (ap (λ (l : List Sector). getD l k no-sector) held-cut ∙ held-at r k no-sector (slot-cut .whole) (slot-cut .below)))
+          (sym (ap (λ (l : List Sector). getD l k no-sector) held-cut ∙ held-at r k no-sector (slot-cut .whole) (slot-cut .below)))
           ∙ sym (on-cut b b (λ i. delivered intact (getD (track-under (store-model s) head) i no-sector) b))
 
       pub write-there : s .protected ≡ false → (a : Writing) → a ≡ cond (eqb (mark-at r k) bad-mark) writing.BadBlock writing.Written → a ≡ write-answer (store-model s) head number size
@@ -166,12 +166,12 @@ module _ (s : TrackStore) (head : ℕ) where
           let bytes : List ℕ = take (bytes-of size) (b .bytes) in
           let laid : List ℕ → DriveModel = λ x. image-model (s .cylinders) (s .heads) (s .capacity) (s .protected) (s .cylinder) (over (record-start (s .heads) (s .capacity) (s .cylinder) head) x memory) in
           let kept : laid record-under ≡ store-model s =
-            ap (image-model (s .cylinders) (s .heads) (s .capacity) (s .protected) (s .cylinder)) (over-back (record-start (s .heads) (s .capacity) (s .cylinder) head) (386 + s .capacity) memory (record-room below)) in
+          ap (image-model (s .cylinders) (s .heads) (s .capacity) (s .protected) (s .cylinder)) (over-back (record-start (s .heads) (s .capacity) (s .cylinder) head) (386 + s .capacity) memory (record-room below)) in
           let done : laid (with-sector k bytes (b .check) record-under) ≡ written (store-model s) head size b k =
-            changed-model (sector head k bytes (b .check)) _ refl below
-              (written-long record-under size k bytes (b .check) slot full four ∙ record-long below)
-              (track-written record-under size k bytes (b .check) slot full four
-                ∙ ap (λ (l : List Sector). set l k (rewritten (getD l k no-sector) bytes (b .check))) (sym (record-held below))) in
+          changed-model (sector head k bytes (b .check)) _ refl below
+          (written-long record-under size k bytes (b .check) slot full four ∙ record-long below)
+          (track-written record-under size k bytes (b .check) slot full four
+          ∙ ap (λ (l : List Sector). set l k (rewritten (getD l k no-sector) bytes (b .check))) (sym (record-held below))) in
           ap laid (e ∙ ap (λ (x : List ℕ). cond (eqb (mark-at r k) bad-mark) x (with-sector k bytes (b .check) x)) same)
           ∙ cond-ap laid (eqb (mark-at r k) bad-mark) _ _
           ∙ ap₂ (cond (eqb (mark-at r k) bad-mark)) kept done

@@ -41,22 +41,22 @@ module _ (heads t c h start : ℕ) (memory xs : List ℕ) (same : xs ≡ memory)
   stored v held new long room =
       let back = put-back new long in
       refilled-is v _
-        (ap length back ∙ length-over (record-start heads t c h) new memory (omega arith) ∙ ap length (sym held) ∙ sym (v .ok .0))
+      (ap length back ∙ length-over (record-start heads t c h) new memory (omega arith) ∙ ap length (sym held) ∙ sym (v .ok .0))
       ∙ back
 
 -- nothing but bytes are written over bytes
 pub bytes-over : (a : ℕ) (ys xs : List ℕ) → a + length ys ≤ length xs → Bytes ys → Bytes xs → Bytes (over a ys xs)
 bytes-over a ys xs fits by bx i =
     ⊎-elim
-      (λ l. subst (λ (n : ℕ). n < 256) (sym (getD-over-outside a ys xs i 0 fits (inl l))) (bx i))
-      (λ l. ⊎-elim
-        (λ m.
-          let e : i ≡ a + (i - a) = omega arith in
-          subst (λ (n : ℕ). n < 256)
-            (sym (ap (λ (n : ℕ). getD (over a ys xs) n 0) e ∙ getD-over-inside a ys xs (i - a) 0 fits (omega arith))) (by (i - a)))
-        (λ m. subst (λ (n : ℕ). n < 256) (sym (getD-over-outside a ys xs i 0 fits (inr m))) (bx i))
-        (cases-lt i (a + length ys)))
-      (cases-lt i a)
+    (λ l. subst (λ (n : ℕ). n < 256) (sym (getD-over-outside a ys xs i 0 fits (inl l))) (bx i))
+    (λ l. ⊎-elim
+    (λ m.
+    let e : i ≡ a + (i - a) = omega arith in
+    subst (λ (n : ℕ). n < 256)
+    (sym (ap (λ (n : ℕ). getD (over a ys xs) n 0) e ∙ getD-over-inside a ys xs (i - a) 0 fits (omega arith))) (by (i - a)))
+    (λ m. subst (λ (n : ℕ). n < 256) (sym (getD-over-outside a ys xs i 0 fits (inr m))) (bx i))
+    (cases-lt i (a + length ys)))
+    (cases-lt i a)
 
 -- a slot that was found in a part is one of the record that the part is
 pub found-in : (o : Option ℕ) (r s : List ℕ) (size : SizeCode) (P : Type 0) → P → r ≡ s → Cases o (Unit {0}) (λ k. Slot r size k) → Cases o (Unit {0}) (λ k. P × Slot s size k)

@@ -58,8 +58,8 @@ module _ (s : TrackStore) (head : ℕ) (ids : List SectorId) (size : SizeCode) w
   unfolding by-count
   count-answer free below out =
       sym (asked free ∙ head-asked below _
-        ∙ cond-false _ by-length _
-            (⊎-elim (λ l. and-left _ _ (lt-leb 1 (length ids) l)) (λ l. and-right _ _ (lt-leb (length ids) 64 l)) out))
+      ∙ cond-false _ by-length _
+      (⊎-elim (λ l. and-left _ _ (lt-leb 1 (length ids) l)) (λ l. and-right _ _ (lt-leb (length ids) 64 l)) out))
 
   module _ (free : s .protected ≡ false) (below : head < s .heads) (some : 1 ≤ length ids) (few : length ids ≤ 64) where
     pub length-answer : s .capacity < length ids * bytes-of size → formatting.TooLong ≡ format-answer (store-model s) head ids size
@@ -77,8 +77,8 @@ module _ (s : TrackStore) (head : ℕ) (ids : List SectorId) (size : SizeCode) w
         let room : 386 + length ids * bytes-of size ≤ length (record-under s head) = omega (arith, record-long s head below) in
         ap (λ (x : List ℕ). image-model (s .cylinders) (s .heads) (s .capacity) (s .protected) (s .cylinder) (over (record-start (s .heads) (s .capacity) (s .cylinder) head) x (s .memory .items))) e
         ∙ changed-model s head (track head ids size check) (blank-track ids size check) refl below
-            (format-long ids size check (record-under s head) few four room ∙ record-long s head below)
-            (track-formatted ids size check (record-under s head) few four room some)
+        (format-long ids size check (record-under s head) few four room ∙ record-long s head below)
+        (track-formatted ids size check (record-under s head) few four room some)
         ∙ sym (cond-true _ _ _ (ap is-formatted (sym (done-answer fits))))
 
   -- a refused format leaves all as it is

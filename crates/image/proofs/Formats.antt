@@ -68,21 +68,21 @@ module _ (ids : List SectorId) (size : SizeCode) (check r : List ℕ) (few : len
 
   -- what the three writes of a format leave
   pub format-is : (n m : ℕ) (p c z : List ℕ) → n ≡ number-of size → m ≡ bytes-of size
-    → (base : List ℕ) → base ≡ set (set r 0 (length ids)) 1 n
-    → p ≡ over 0 pairs (part 2 128 base)
-    → c ≡ over 0 checks (part 130 256 (putMid 2 128 base p))
-    → z ≡ replicate (length ids * m) 0
-    → putMid 386 ((386 + length ids * m) - 386) (putMid 130 256 (putMid 2 128 base p) c) z ≡ with-format ids size check r
+      → (base : List ℕ) → base ≡ set (set r 0 (length ids)) 1 n
+      → p ≡ over 0 pairs (part 2 128 base)
+      → c ≡ over 0 checks (part 130 256 (putMid 2 128 base p))
+      → z ≡ replicate (length ids * m) 0
+      → putMid 386 ((386 + length ids * m) - 386) (putMid 130 256 (putMid 2 128 base p) c) z ≡ with-format ids size check r
   format-is n m p c z en em base eb ep ec ez =
       let two : base ≡ over 0 (length ids ∷ number-of size ∷ []) r =
-        eb ∙ ap (λ (t : ℕ). set (set r 0 (length ids)) 1 t) en ∙ set-two (length ids) (number-of size) r (omega arith) in
+      eb ∙ ap (λ (t : ℕ). set (set r 0 (length ids)) 1 t) en ∙ set-two (length ids) (number-of size) r (omega arith) in
       let long : length base ≡ length r = ap length two ∙ length-over 0 (length ids ∷ number-of size ∷ []) r (omega arith) in
       let first : putMid 2 128 base p ≡ headed =
-        ap (putMid 2 128 base) ep ∙ put-front 2 130 pairs base (omega arith) (omega arith) (omega (arith, pairs-long))
-        ∙ ap (over 2 pairs) two ∙ over-more 0 (length ids ∷ number-of size ∷ []) pairs r (omega (arith, pairs-long)) in
+      ap (putMid 2 128 base) ep ∙ put-front 2 130 pairs base (omega arith) (omega arith) (omega (arith, pairs-long))
+      ∙ ap (over 2 pairs) two ∙ over-more 0 (length ids ∷ number-of size ∷ []) pairs r (omega (arith, pairs-long)) in
       let second : putMid 130 256 (putMid 2 128 base p) c ≡ checked =
-        ap₂ (putMid 130 256) first (ec ∙ ap (λ (t : List ℕ). over 0 checks (part 130 256 t)) first)
-        ∙ put-front 130 386 checks headed (omega arith) (omega (arith, headed-long)) (omega (arith, checks-long)) in
+      ap₂ (putMid 130 256) first (ec ∙ ap (λ (t : List ℕ). over 0 checks (part 130 256 t)) first)
+      ∙ put-front 130 386 checks headed (omega arith) (omega (arith, headed-long)) (omega (arith, checks-long)) in
       let zeros : z ≡ replicate (length ids * bytes-of size) 0 = ez ∙ ap (λ (t : ℕ). replicate (length ids * t) 0) em in
       let used : length z ≡ (386 + length ids * m) - 386 = ap length ez ∙ length-replicate (length ids * m) 0 ∙ omega arith in
       put-over 386 (386 + length ids * m) z _ used (omega arith) ∙ ap₂ (over 386) zeros second
@@ -150,35 +150,35 @@ module _ (ids : List SectorId) (size : SizeCode) (check r : List ℕ) (few : len
     sector-new : sector-at new i ≡ blank-sector size check id
     sector-new =
         λ j.
-          record {
-            number = number-new j;
-            size = size-new j;
-            bad = (ap (λ (m : ℕ). eqb m bad-mark) mark-new ∙ marked-back (id .bad)) j;
-            bytes = (ap (λ (z : ℕ). part (386 + i * z) z new) (ap bytes-of size-new) ∙ bytes-new) j;
-            check = check-new j;
-          }
+        record {
+          number = number-new j;
+          size = size-new j;
+          bad = (ap (λ (m : ℕ). eqb m bad-mark) mark-new ∙ marked-back (id .bad)) j;
+          bytes = (ap (λ (z : ℕ). part (386 + i * z) z new) (ap bytes-of size-new) ∙ bytes-new) j;
+          check = check-new j;
+        }
 
   marks-new : (i n : ℕ) → i + n ≤ length ids → marks-fit new i n ≡ true
   marks-new i zero h = refl
   marks-new i (suc n) h =
       and-from _ _ (ap (λ (m : ℕ). eqb m 0 || eqb m bad-mark) (mark-new i (omega arith) no-id) ∙ mark-fits (getD ids i no-id .bad))
-        (marks-new (i + 1) n (omega arith))
+      (marks-new (i + 1) n (omega arith))
 
   formatted-new : 1 ≤ length ids → formatted new ≡ true
   formatted-new some =
       let room-new : count-in new * bytes-of (size-in new) ≤ length new - 386 =
-        subst (λ (m : ℕ). m ≤ length new - 386) (sym (ap₂ _*_ count-new (ap bytes-of size-new))) (omega (arith, format-long, room)) in
+      subst (λ (m : ℕ). m ≤ length new - 386) (sym (ap₂ _*_ count-new (ap bytes-of size-new))) (omega (arith, format-long, room)) in
       and-from _ _ (and-from _ _ (le-leb 1 (count-in new) (omega (arith, count-new))) (le-leb (count-in new) 64 (omega (arith, count-new))))
-        (and-from _ _ (le-leb (code-in new) 3 (omega (arith, code-new, number-small size)))
-          (and-from _ _ (le-leb _ _ room-new)
-            (ap (marks-fit new 0) count-new ∙ marks-new 0 (length ids) (omega arith))))
+      (and-from _ _ (le-leb (code-in new) 3 (omega (arith, code-new, number-small size)))
+      (and-from _ _ (le-leb _ _ room-new)
+      (ap (marks-fit new 0) count-new ∙ marks-new 0 (length ids) (omega arith))))
 
   -- the track is the one that a format lays down
   pub track-formatted : 1 ≤ length ids → track-in new ≡ blank-track ids size check
   track-formatted some =
       held new (formatted-new some) ∙ ap (λ (n : ℕ). map (sector-at new) (counting 0 n)) count-new
       ∙ same-lists _ _ (length-map-counting (sector-at new) 0 (length ids) ∙ sym (length-map ids (blank-sector size check)))
-          (λ i d h.
-            let l : i < length ids = omega (arith, length-map-counting (sector-at new) 0 (length ids)) in
-            getD-map-counting (sector-at new) 0 (length ids) i i d l (omega arith)
-            ∙ sector-new i l no-id ∙ sym (getD-map (blank-sector size check) ids i no-id d l))
+      (λ i d h.
+      let l : i < length ids = omega (arith, length-map-counting (sector-at new) 0 (length ids)) in
+      getD-map-counting (sector-at new) 0 (length ids) i i d l (omega arith)
+      ∙ sector-new i l no-id ∙ sym (getD-map (blank-sector size check) ids i no-id d l))

@@ -30,9 +30,10 @@ place-below : (cylinders heads c h : ℕ) → c < cylinders → h < heads → c 
 place-below cylinders heads c h l m = omega (arith, mul-add-lt c heads h cylinders l m, mul-comm cylinders heads)
 
 same-place : (heads c h c′ h′ : ℕ) → h < heads → h′ < heads → c * heads + h ≡ c′ * heads + h′ → (c ≡ c′) × (h ≡ h′)
-same-place heads c h c′ h′ l l′ e =
-    (sym (div-mul-add c heads h l) ∙ ap (λ (n : ℕ). n / heads) e ∙ div-mul-add c′ heads h′ l′,
-     sym (mod-mul-add c heads h l) ∙ ap (λ (n : ℕ). n % heads) e ∙ mod-mul-add c′ heads h′ l′)
+same-place heads c h c′ h′ l l′ e = (
+  sym (div-mul-add c heads h l) ∙ ap (λ (n : ℕ). n / heads) e ∙ div-mul-add c′ heads h′ l′,
+  sym (mod-mul-add c heads h l) ∙ ap (λ (n : ℕ). n % heads) e ∙ mod-mul-add c′ heads h′ l′,
+)
 
 -- a track's record lies in the memory
 pub record-inside : (cylinders heads t c h : ℕ) (memory : List ℕ) → length memory ≡ (cylinders * heads) * (386 + t) → c < cylinders → h < heads → record-start heads t c h + (386 + t) ≤ length memory
@@ -66,33 +67,33 @@ module _ (cylinders heads t c h : ℕ) (memory new : List ℕ) (whole : length m
   record-there : (c′ h′ : ℕ) → (c′ * heads + h′ ≡ c * heads + h → ⊥) → record-of heads t c′ h′ after ≡ record-of heads t c′ h′ memory
   record-there c′ h′ ne =
       part-over-other (record-start heads t c h) new memory (record-start heads t c′ h′) (386 + t) fits
-        (⊎-elim (λ e. absurd (ne e))
-          (⊎-elim (λ s. inl (omega (arith, apart (c′ * heads + h′) (c * heads + h) (386 + t) s)))
-            (λ s. inr (omega (arith, apart (c * heads + h) (c′ * heads + h′) (386 + t) s))))
-          (cases-order (c′ * heads + h′) (c * heads + h)))
+      (⊎-elim (λ e. absurd (ne e))
+      (⊎-elim (λ s. inl (omega (arith, apart (c′ * heads + h′) (c * heads + h) (386 + t) s)))
+      (λ s. inr (omega (arith, apart (c * heads + h) (c′ * heads + h′) (386 + t) s))))
+      (cases-order (c′ * heads + h′) (c * heads + h)))
 
   track-there : (c′ h′ : ℕ) → (eqb c′ c && eqb h′ h) ≡ false → tracks-of cylinders heads t after c′ h′ ≡ tracks-of cylinders heads t memory c′ h′
   track-there c′ h′ s =
       ⊎-elim
-        (λ l. ap (λ (r : List ℕ). cond (ltb c′ cylinders && ltb h′ heads) (track-in r) [])
-          (record-there c′ h′
-            (λ e. let p = same-place heads c′ h′ c h l lh e in
-              ⊎-elim (λ f. eqb-false _ _ f (p .0)) (λ f. eqb-false _ _ f (p .1)) (and-cases _ _ s))))
-        (λ l. track-past-heads cylinders heads t after c′ h′ l ∙ sym (track-past-heads cylinders heads t memory c′ h′ l))
-        (cases-lt h′ heads)
+      (λ l. ap (λ (r : List ℕ). cond (ltb c′ cylinders && ltb h′ heads) (track-in r) [])
+      (record-there c′ h′
+      (λ e. let p = same-place heads c′ h′ c h l lh e in
+      ⊎-elim (λ f. eqb-false _ _ f (p .0)) (λ f. eqb-false _ _ f (p .1)) (and-cases _ _ s))))
+      (λ l. track-past-heads cylinders heads t after c′ h′ l ∙ sym (track-past-heads cylinders heads t memory c′ h′ l))
+      (cases-lt h′ heads)
 
   pub tracks-after : tracks-of cylinders heads t after ≡ replaced (tracks-of cylinders heads t memory) c h (track-in new)
   tracks-after =
       fun-ext (λ c′. fun-ext (λ h′.
-        ⊎-elim
-          (λ s.
-            let p = and-parts _ _ s in
-            let ec : c′ ≡ c = eqb-true _ _ (p .0) in
-            let eh : h′ ≡ h = eqb-true _ _ (p .1) in
-            track-inside cylinders heads t after c′ h′ (omega arith) (omega arith)
-            ∙ ap (λ (x : ℕ). track-in (record-of heads t x h′ after)) ec
-            ∙ ap (λ (x : ℕ). track-in (record-of heads t c x after)) eh
-            ∙ ap track-in record-here
-            ∙ sym (cond-true _ _ _ s))
-          (λ s. track-there c′ h′ s ∙ sym (cond-false _ _ _ s))
-          (cases-bool (eqb c′ c && eqb h′ h))))
+      ⊎-elim
+      (λ s.
+      let p = and-parts _ _ s in
+      let ec : c′ ≡ c = eqb-true _ _ (p .0) in
+      let eh : h′ ≡ h = eqb-true _ _ (p .1) in
+      track-inside cylinders heads t after c′ h′ (omega arith) (omega arith)
+      ∙ ap (λ (x : ℕ). track-in (record-of heads t x h′ after)) ec
+      ∙ ap (λ (x : ℕ). track-in (record-of heads t c x after)) eh
+      ∙ ap track-in record-here
+      ∙ sym (cond-true _ _ _ s))
+      (λ s. track-there c′ h′ s ∙ sym (cond-false _ _ _ s))
+      (cases-bool (eqb c′ c && eqb h′ h))))

@@ -8,3 +8,4 @@ pub mod Frames
 pub mod Cuts
 pub mod Calls
 pub mod FormatCall
+pub mod Holds

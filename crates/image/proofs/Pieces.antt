@@ -21,7 +21,7 @@ module _ {X : Type 0} (f : X → List ℕ) (w : ℕ) (each : (x : X) → length 
   pub joined-over : (xs : List X) (i : ℕ) (d : X) (old new piece : List ℕ) → i < length xs → w * length xs ≤ length old → new ≡ over 0 (joined f (take i xs)) old → piece ≡ f (getD xs i d) → putMid (w * i) ((w * i + w) - w * i) new piece ≡ over 0 (joined f (take (i + 1) xs)) old
   joined-over xs i d old new piece h room en ep =
       let front : length (joined f (take i xs)) ≡ w * i =
-        length-joined (take i xs) ∙ ap (λ (n : ℕ). w * n) (length-take-le i xs (omega arith)) in
+      length-joined (take i xs) ∙ ap (λ (n : ℕ). w * n) (length-take-le i xs (omega arith)) in
       let long : length piece ≡ w = ap length ep ∙ each (getD xs i d) in
       let up : w * (i + 1) ≤ w * length xs = mul-le-mul-left w (omega arith) in
       let more : w * (i + 1) ≡ w * i + w * 1 = mul-add w i 1 in
@@ -29,7 +29,7 @@ module _ {X : Type 0} (f : X → List ℕ) (w : ℕ) (each : (x : X) → length 
       ∙ ap₂ (λ (n : ℕ) (t : List ℕ). over n piece t) (let e : w * i ≡ 0 + length (joined f (take i xs)) = omega arith in e) en
       ∙ over-more 0 (joined f (take i xs)) piece old (omega arith)
       ∙ ap (λ (t : List ℕ). over 0 t old)
-          (ap (λ (t : List ℕ). joined f (take i xs) ++ t) ep ∙ joined-more f [] (take i xs) (getD xs i d) ∙ ap (joined f) (sym (take-more xs i d h)))
+      (ap (λ (t : List ℕ). joined f (take i xs) ++ t) ep ∙ joined-more f [] (take i xs) (getD xs i d) ∙ ap (joined f) (sym (take-more xs i d h)))
 
   -- piece i of the whole
   pub joined-part : (xs : List X) (i : ℕ) (d : X) → i < length xs → part (w * i) w (joined f xs) ≡ f (getD xs i d)

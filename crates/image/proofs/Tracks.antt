@@ -26,6 +26,12 @@ size-small Bytes512 = omega arith
 size-small Bytes1024 = omega arith
 size-small Bytes128 = omega arith
 
+pub size-some : (size : SizeCode) → 1 ≤ bytes-of size
+size-some Bytes256 = omega arith
+size-some Bytes512 = omega arith
+size-some Bytes1024 = omega arith
+size-some Bytes128 = omega arith
+
 pub number-small : (size : SizeCode) → number-of size ≤ 3
 number-small Bytes256 = omega arith
 number-small Bytes512 = omega arith
@@ -90,7 +96,7 @@ slot-more r number size i e h =
     at-drop-more (λ (ss : List Sector). first-from (is-meant number size) i ss) (track-in r) i no-sector l
     ∙ ap (λ (s : Sector). cond (is-meant number size s) (Some i) (slots-from r number size (i + 1))) (held-at r i no-sector e h)
     ∙ ap (λ (n : ℕ). cond (eqb (number-at r i) number && eqb n (number-of size)) (Some i) (slots-from r number size (i + 1)))
-        (number-numbered (code-in r) (shape-of r e .coded))
+    (number-numbered (code-in r) (shape-of r e .coded))
 
 pub slot-all : (r : List ℕ) (number : ℕ) (size : SizeCode) (i : ℕ) → formatted r ≡ true → count-in r ≤ i → slots-from r number size i ≡ None
 slot-all r number size i e h =

@@ -67,7 +67,7 @@ part-append-right n i m xs ys h =
 pub put-front : (a e : ℕ) (ys xs : List ℕ) → a ≤ e → e ≤ length xs → length ys ≤ e - a → putMid a (e - a) xs (over 0 ys (part a (e - a) xs)) ≡ over a ys xs
 put-front a e ys xs h l m =
     put-over a e (over 0 ys (part a (e - a) xs)) xs
-      (length-over 0 ys (part a (e - a) xs) (omega (arith, length-part a (e - a) xs (omega arith))) ∙ length-part a (e - a) xs (omega arith)) h
+    (length-over 0 ys (part a (e - a) xs) (omega (arith, length-part a (e - a) xs (omega arith))) ∙ length-part a (e - a) xs (omega arith)) h
     ∙ same-lists _ _ (simp (length-take, length-drop, length-append) (omega arith)) (λ k d l. grind (arith, places))
 
 -- two elements

@@ -68,7 +68,7 @@ module _ (r : List ℕ) (size : SizeCode) (k : ℕ) (bytes check : List ℕ) (s 
       record {
         long = length-over (130 + 4 * k) check mid outer-fits ∙ mid-long;
         head =
-          λ j h.
+            λ j h.
             getD-over-outside (130 + 4 * k) check mid j 0 outer-fits (inl (omega arith))
             ∙ getD-over-outside at bytes r j 0 inner-fits (inl (omega arith));
       }
@@ -90,8 +90,8 @@ module _ (r : List ℕ) (size : SizeCode) (k : ℕ) (bytes check : List ℕ) (s 
   bytes-there i ne =
       part-over-other (130 + 4 * k) check mid (386 + i * bytes-of size) (bytes-of size) outer-fits (inr (omega (arith, four, check-fits r size k s)))
       ∙ part-over-other at bytes r (386 + i * bytes-of size) (bytes-of size) inner-fits
-          (⊎-elim (λ l. inl (omega (arith, place, apart i k (bytes-of size) l)))
-            (λ l. inr (omega (arith, place, full, apart k i (bytes-of size) (omega arith)))) (cases-lt i k))
+      (⊎-elim (λ l. inl (omega (arith, place, apart i k (bytes-of size) l)))
+      (λ l. inr (omega (arith, place, full, apart k i (bytes-of size) (omega arith)))) (cases-lt i k))
 
   check-here : part (130 + 4 * k) 4 new ≡ check
   check-here =
@@ -100,19 +100,19 @@ module _ (r : List ℕ) (size : SizeCode) (k : ℕ) (bytes check : List ℕ) (s 
   check-there : (i : ℕ) → i < 64 → (i ≡ k → ⊥) → part (130 + 4 * i) 4 new ≡ part (130 + 4 * i) 4 r
   check-there i l ne =
       part-over-other (130 + 4 * k) check mid (130 + 4 * i) 4 outer-fits
-        (⊎-elim (λ h. inl (omega arith)) (λ h. inr (omega (arith, four))) (cases-lt i k))
+      (⊎-elim (λ h. inl (omega arith)) (λ h. inr (omega (arith, four))) (cases-lt i k))
       ∙ part-over-other at bytes r (130 + 4 * i) 4 inner-fits (inl (omega arith))
 
   sector-with : (i : ℕ) → i < 64 → (bs cs : List ℕ) → part (386 + i * bytes-of size) (bytes-of size) new ≡ bs → part (130 + 4 * i) 4 new ≡ cs → sector-at new i ≡ rewritten (sector-at r i) bs cs
   sector-with i l bs cs eb ec =
       λ j.
-        record {
-          number = alike .head (2 + 2 * i) (omega arith) j;
-          size = size-numbered (code-same j);
-          bad = eqb (alike .head (3 + 2 * i) (omega arith) j) bad-mark;
-          bytes = (ap (λ (z : ℕ). part (386 + i * z) z new) size-same ∙ eb) j;
-          check = ec j;
-        }
+      record {
+        number = alike .head (2 + 2 * i) (omega arith) j;
+        size = size-numbered (code-same j);
+        bad = eqb (alike .head (3 + 2 * i) (omega arith) j) bad-mark;
+        bytes = (ap (λ (z : ℕ). part (386 + i * z) z new) size-same ∙ eb) j;
+        check = ec j;
+      }
 
   sector-here : sector-at new k ≡ rewritten (sector-at r k) bytes check
   sector-here = sector-with k (omega (arith, s .below, s .few)) bytes check bytes-here check-here
@@ -120,7 +120,7 @@ module _ (r : List ℕ) (size : SizeCode) (k : ℕ) (bytes check : List ℕ) (s 
   sector-there : (i : ℕ) → i < 64 → (i ≡ k → ⊥) → sector-at new i ≡ sector-at r i
   sector-there i l ne =
       sector-with i l (sector-at r i .bytes) (sector-at r i .check)
-        (bytes-there i ne ∙ sym (ap (λ (z : ℕ). part (386 + i * z) z r) (sector-size r size k s))) (check-there i l ne)
+      (bytes-there i ne ∙ sym (ap (λ (z : ℕ). part (386 + i * z) z r) (sector-size r size k s))) (check-there i l ne)
 
   pub track-written : track-in new ≡ set (track-in r) k (rewritten (getD (track-in r) k no-sector) bytes check)
   track-written =
@@ -128,19 +128,19 @@ module _ (r : List ℕ) (size : SizeCode) (k : ℕ) (bytes check : List ℕ) (s 
       held new (formatted-alike r new alike (s .whole))
       ∙ ap (λ (m : ℕ). map (sector-at new) (counting 0 m)) n
       ∙ same-lists _ _
-          (length-map-counting (sector-at new) 0 (count-in r) ∙ sym (length-set (sectors-in r) k _ ∙ length-map-counting (sector-at r) 0 (count-in r)))
-          (λ i d h.
-            let l : i < count-in r = omega (arith, length-map-counting (sector-at new) 0 (count-in r)) in
-            let m : k < length (sectors-in r) = omega (arith, s .below, length-map-counting (sector-at r) 0 (count-in r)) in
-            getD-map-counting (sector-at new) 0 (count-in r) i i d l (omega arith)
-            ∙ ⊎-elim
-                (λ e. ap (sector-at new) e ∙ sector-here ∙ sym (getD-set-same (sectors-in r) k _ d m)
-                  ∙ ap (λ (x : ℕ). getD (set (sectors-in r) k (rewritten (sector-at r k) bytes check)) x d) (sym e))
-                (λ ne. sector-there i (omega (arith, s .few)) ne
-                  ∙ sym (getD-set-other (sectors-in r) k i _ d ne ∙ getD-map-counting (sector-at r) 0 (count-in r) i i d l (omega arith)))
-                (cases-eq i k))
+      (length-map-counting (sector-at new) 0 (count-in r) ∙ sym (length-set (sectors-in r) k _ ∙ length-map-counting (sector-at r) 0 (count-in r)))
+      (λ i d h.
+      let l : i < count-in r = omega (arith, length-map-counting (sector-at new) 0 (count-in r)) in
+      let m : k < length (sectors-in r) = omega (arith, s .below, length-map-counting (sector-at r) 0 (count-in r)) in
+      getD-map-counting (sector-at new) 0 (count-in r) i i d l (omega arith)
+      ∙ ⊎-elim
+      (λ e. ap (sector-at new) e ∙ sector-here ∙ sym (getD-set-same (sectors-in r) k _ d m)
+      ∙ ap (λ (x : ℕ). getD (set (sectors-in r) k (rewritten (sector-at r k) bytes check)) x d) (sym e))
+      (λ ne. sector-there i (omega (arith, s .few)) ne
+      ∙ sym (getD-set-other (sectors-in r) k i _ d ne ∙ getD-map-counting (sector-at r) 0 (count-in r) i i d l (omega arith)))
+      (cases-eq i k))
       ∙ ap₂ (λ (l : List Sector) (x : Sector). set l k (rewritten x bytes check)) (sym (held r (s .whole)))
-          (sym (held-at r k no-sector (s .whole) (s .below)))
+      (sym (held-at r k no-sector (s .whole) (s .below)))
 
   pub written-long : length new ≡ length r
   written-long = alike .long

@@ -38,8 +38,8 @@ head-of (track head ids size check) = head
 abbrev pub image-layout : ℕ → ℕ → Layout
 image-layout heads capacity cylinder change memory =
     over (record-start heads capacity cylinder (head-of change))
-      (changed change (record-of heads capacity cylinder (head-of change) memory))
-      memory
+    (changed change (record-of heads capacity cylinder (head-of change) memory))
+    memory
 
 -- no place is damaged
 abbrev pub undamaged : Outlook
@@ -66,12 +66,12 @@ image-model cylinders heads capacity protected cylinder memory =
 abbrev pub refusal-of : Measures → ℕ → ℕ → ℕ → ℕ → Option Refusal
 refusal-of most cylinders heads capacity length =
     cond (leb 1 cylinders && leb cylinders (most .cylinders))
-      (cond (leb 1 heads && leb heads (most .heads))
-        (cond (leb 128 capacity && (leb capacity 65536 && eqb (capacity % 128) 0))
-          (cond (eqb length ((cylinders * heads) * (386 + capacity))) None (Some Memory))
-          (Some Capacity))
-        (Some Heads))
-      (Some Cylinders)
+    (cond (leb 1 heads && leb heads (most .heads))
+    (cond (leb 128 capacity && (leb capacity 65536 && eqb (capacity % 128) 0))
+    (cond (eqb length ((cylinders * heads) * (386 + capacity))) None (Some Memory))
+    (Some Capacity))
+    (Some Heads))
+    (Some Cylinders)
 
 -- the refusals by number
 abbrev pub refusal-number : Refusal → ℕ
@@ -79,3 +79,10 @@ refusal-number Cylinders = 6
 refusal-number Heads = 7
 refusal-number Capacity = 8
 refusal-number Memory = 9
+
+-- the most cylinders and heads of either make
+abbrev pub winchester-most : Measures
+winchester-most = record { cylinders = 1024; heads = 8 }
+
+abbrev pub floppy-most : Measures
+floppy-most = record { cylinders = 256; heads = 2 }

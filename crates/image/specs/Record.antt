@@ -96,4 +96,4 @@ pair-of id = id .number ∷ cond (id .bad) bad-mark 0 ∷ []
 abbrev pub with-format : List SectorId → SizeCode → List ℕ → List ℕ → List ℕ
 with-format ids size check r =
     over 386 (replicate (length ids * bytes-of size) 0)
-      (over 130 (joined (λ _. check) ids) (over 0 (length ids ∷ number-of size ∷ joined pair-of ids) r))
+    (over 130 (joined (λ _. check) ids) (over 0 (length ids ∷ number-of size ∷ joined pair-of ids) r))

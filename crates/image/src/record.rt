@@ -48,7 +48,10 @@ fn is_formatted(track: &[u8]) -> bool
     let Some(size) = SizeCode::from_number(track[1]) else {
         return false;
     };
-    count >= 1 && count <= 64 && count * size.bytes() <= track.len() - HEADER && marks_fit(track, count)
+    count >= 1
+        && count <= 64
+        && count * size.bytes() <= track.len() - HEADER
+        && marks_fit(track, count)
 }
 
 // The slot of the first sector with this number and size.
@@ -81,7 +84,9 @@ pub fn read_slot(track: &[u8], slot: usize, size: SizeCode, buffer: &mut SectorB
     let length = size.bytes();
     let from = HEADER + slot * length;
     let check = 130 + 4 * slot;
-    buffer.bytes[0..length].copy_from_slice(&track[from..from + length]);
+    buffer
+        .bytes[0..length]
+        .copy_from_slice(&track[from..from + length]);
     buffer.check.copy_from_slice(&track[check..check + 4]);
     Reading::Delivered
 }

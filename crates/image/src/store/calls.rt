@@ -4,7 +4,7 @@ ghost use Prim.Native.Nat.{ℕ, _+_, _*_, _<_, _≤_};
 ghost use Rattle.std.specs.Of.Vec.{vec-items};
 ghost use Rattle.std.specs.Options.{Cases as BySome};
 ghost use Rattle.drive.specs.Model.{slot-of};
-ghost use Rattle.drive.specs.Calls.{track-under, stepped-in, stepped-out, read-answer, handed-over, after-read, write-answer, after-write, format-answer, after-format};
+ghost use Rattle.drive.specs.Calls.{track-under, step-answer, stepped-in, stepped-out, read-answer, handed-over, after-read, write-answer, after-write, format-answer, after-format};
 ghost use Rattle.image.specs.Record.{Slot};
 ghost use Rattle.image.specs.Image.{record-start, record-of};
 ghost use Rattle.image.specs.Store.{store-model};
@@ -18,6 +18,7 @@ use drive::Formatting;
 use drive::Reading;
 use drive::SectorBuffer;
 use drive::SectorId;
+use drive::Stepping;
 use drive::Writing;
 use sector::SizeCode;
 
@@ -53,23 +54,27 @@ impl TrackStore {
     }
 
     // One cylinder in; at the last the head stays.
-    pub fn step_in(&mut self)
+    pub fn step_in(&mut self) -> Stepping
+        ensures answer { λ r. ⌜ r ≡ step-answer (store-model (now (self .entry))) ⌝ }
         ensures after { λ _. ⌜ store-model (now (self .exit)) ≡ stepped-in (store-model (now (self .entry))) ⌝ }
         ensures kept { λ _. ⌜ (now (self .exit) .cylinders ≡ now (self .entry) .cylinders) × (now (self .exit) .heads ≡ now (self .entry) .heads) ⌝ }
     {
         if self.cylinder + 1 < self.cylinders {
             self.cylinder += 1;
         }
+        Stepping::Stepped
     }
 
     // One cylinder out; at cylinder 0 the head stays.
-    pub fn step_out(&mut self)
+    pub fn step_out(&mut self) -> Stepping
+        ensures answer { λ r. ⌜ r ≡ step-answer (store-model (now (self .entry))) ⌝ }
         ensures after { λ _. ⌜ store-model (now (self .exit)) ≡ stepped-out (store-model (now (self .entry))) ⌝ }
         ensures kept { λ _. ⌜ (now (self .exit) .cylinders ≡ now (self .entry) .cylinders) × (now (self .exit) .heads ≡ now (self .entry) .heads) ⌝ }
     {
         if self.cylinder > 0 {
             self.cylinder -= 1;
         }
+        Stepping::Stepped
     }
 
     // Where the record of a track under the head starts.
@@ -126,7 +131,13 @@ impl TrackStore {
     }
 
     // A format of a track under the head.
-    pub fn format(&mut self, head: u8, ids: &[SectorId], size: SizeCode, check: [u8; 4]) -> Formatting
+    pub fn format(
+        &mut self,
+        head: u8,
+        ids: &[SectorId],
+        size: SizeCode,
+        check: [u8; 4],
+    ) -> Formatting
         ensures answer { λ r. ⌜ r ≡ format-answer (store-model (now (self .entry))) head (now (ids .entry)) size ⌝ }
         ensures after { λ _. ⌜ store-model (now (self .exit)) ≡ after-format (store-model (now (self .entry))) head (now (ids .entry)) size check ⌝ }
         ensures kept { λ _. ⌜ (now (self .exit) .cylinders ≡ now (self .entry) .cylinders) × (now (self .exit) .heads ≡ now (self .entry) .heads) ⌝ }

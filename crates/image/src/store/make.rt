@@ -30,31 +30,65 @@ fn are_bytes(bytes: &[u8])
 
 impl TrackStore {
     // A store with these measures over this memory, unless one of the four questions fails.
-    pub fn new(most_cylinders: u16, most_heads: u8, cylinders: u16, heads: u8, capacity: u32, protected: bool, memory: Vec<u8>) -> Result<TrackStore, Refused>
+    pub fn new(
+        most_cylinders: u16,
+        most_heads: u8,
+        cylinders: u16,
+        heads: u8,
+        capacity: u32,
+        protected: bool,
+        memory: Vec<u8>,
+    ) -> Result<TrackStore, Refused>
         ensures { λ r. ⌜ elim r [ Ok s ↦ (refusal-of (record { cylinders = «most_cylinders»; heads = «most_heads» }) cylinders heads capacity (vec-len memory) ≡ None) × (store-model s ≡ image-model cylinders heads capacity protected 0 (vec-items memory)) × (s .cylinders ≤ «most_cylinders») × (s .heads ≤ «most_heads») | Err e ↦ (refusal-of (record { cylinders = «most_cylinders»; heads = «most_heads» }) cylinders heads capacity (vec-len memory) ≡ Some (e .refusal)) × (e .memory ≡ memory) ] ⌝ }
     {
         if cylinders < 1 || cylinders > most_cylinders {
-            return Err(Refused { refusal: Refusal::Cylinders, memory });
+            return Err(Refused {
+                refusal: Refusal::Cylinders,
+                memory,
+            });
         }
         if heads < 1 || heads > most_heads {
-            return Err(Refused { refusal: Refusal::Heads, memory });
+            return Err(Refused {
+                refusal: Refusal::Heads,
+                memory,
+            });
         }
         if capacity < 128 || capacity > 65536 || capacity % 128 != 0 {
-            return Err(Refused { refusal: Refusal::Capacity, memory });
+            return Err(Refused {
+                refusal: Refusal::Capacity,
+                memory,
+            });
         }
         let records = cylinders as usize * heads as usize;
         if memory.len() != records * (386 + capacity as usize) {
-            return Err(Refused { refusal: Refusal::Memory, memory });
+            return Err(Refused {
+                refusal: Refusal::Memory,
+                memory,
+            });
         }
         are_bytes(&memory);
-        Ok(TrackStore { cylinders, heads, capacity, protected, cylinder: 0, memory })
+        Ok(TrackStore {
+            cylinders,
+            heads,
+            capacity,
+            protected,
+            cylinder: 0,
+            memory,
+        })
     }
 
     // The sector memory.
     pub fn into_memory(self) -> Vec<u8>
         ensures { λ r. ⌜ r ≡ self .memory ⌝ }
     {
-        let TrackStore { cylinders: _, heads: _, capacity: _, protected: _, cylinder: _, memory } = self;
+        let TrackStore {
+            cylinders: _,
+            heads: _,
+            capacity: _,
+            protected: _,
+            cylinder: _,
+            memory,
+        } = self;
         memory
     }
 }

@@ -22,19 +22,19 @@ returns-then-track-number c =
     let s = slot-more (c .args .track .now) (c .args .number) (c .args .size) (c .loop-slot .slot) e (omega arith) in
     let h = shape-of (c .args .track .now) e in
     let same : size-in (c .args .track .now) ≡ c .args .size =
-      ap size-numbered (c .if-track-number .taken ∙ c .number .ensures) ∙ numbered (c .args .size) in
+    ap size-numbered (c .if-track-number .taken ∙ c .number .ensures) ∙ numbered (c .args .size) in
     let z : bytes-of (size-in (c .args .track .now)) ≡ bytes-of (c .args .size) = ap bytes-of same in
     let room : 386 + count-in (c .args .track .now) * bytes-of (size-in (c .args .track .now)) ≤ length (c .args .track .now) = omega (arith, h .room) in
     record {
       slot = grind (arith, tells);
       found =
-        record {
-          whole = e;
-          below = omega arith;
-          few = h .few;
-          same-size = same;
-          room = subst (λ (n : ℕ). 386 + count-in (c .args .track .now) * n ≤ length (c .args .track .now)) z room;
-        };
+          record {
+            whole = e;
+            below = omega arith;
+            few = h .few;
+            same-size = same;
+            room = subst (λ (n : ℕ). 386 + count-in (c .args .track .now) * n ≤ length (c .args .track .now)) z room;
+          };
     }
 
 pub returns : need.returns

@@ -11,7 +11,7 @@ pub returns : need.returns
 returns c =
     record {
       after =
-        format-is (c .args .ids .now) (c .args .size) (c .args .check) (c .args .track .now) (c .pre .0) (search needs) (c .pre .1)
+          format-is (c .args .ids .now) (c .args .size) (c .args .check) (c .args .track .now) (c .pre .0) (search needs) (c .pre .1)
           (c .number .result) (c .bytes .result) _ _ _ (c .number .ensures) (c .bytes .ensures) _ refl
           (c .write-pairs .ensures) (c .write-checks .ensures)
           (c .fill .ensures .after (λ y e. e) ∙ ap (λ (n : ℕ). replicate n 0) (search needs));

@@ -16,13 +16,13 @@ loop-slot-again c =
     let none : SectorId = record { number = 0; bad = false } in
     let id : SectorId = getD (c .args .ids .now) (c .loop-slot .slot) none in
     let mark : c .if-id .mark ≡ cond (id .bad) bad-mark 0 =
-      elim (c .if-id .came) [
-        then-id w ↦ w .mark-is ∙ sym (ap (λ (b : Bool). cond b bad-mark 0) (w .if-id .taken))
+    elim (c .if-id .came) [
+      | then-id w ↦ w .mark-is ∙ sym (ap (λ (b : Bool). cond b bad-mark 0) (w .if-id .taken))
       | else-id w ↦ w .mark-is ∙ sym (ap (λ (b : Bool). cond b bad-mark 0) (w .if-id .left))
-      ] in
+    ] in
     joined-over pair-of 2 (λ _. refl) (c .args .ids .now) (c .loop-slot .slot) none (c .args .pairs .now) (c .loop-slot .pairs) _
-      (omega arith) (omega arith) (c .loop-slot .inv)
-      (c .copy-from-slice .ensures .after ∙ ap (λ (m : ℕ). id .number ∷ m ∷ []) mark)
+    (omega arith) (omega arith) (c .loop-slot .inv)
+    (c .copy-from-slice .ensures .after ∙ ap (λ (m : ℕ). id .number ∷ m ∷ []) mark)
 
 pub returns : need.returns
 returns c =

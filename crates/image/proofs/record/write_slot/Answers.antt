@@ -19,7 +19,7 @@ returns c =
       bytes = λ i. c .typed .track i .fits;
       full = (search needs, search needs);
       after =
-        write-is (c .args .track .now) (c .args .size) (c .args .slot) (c .pre) (c .args .buffer .now .bytes) (c .args .buffer .now .check) _ _
+          write-is (c .args .track .now) (c .args .size) (c .args .slot) (c .pre) (c .args .buffer .now .bytes) (c .args .buffer .now .check) _ _
           (c .bytes-length .result) (c .bytes-length .ensures) (c .copy-from-slice .ensures .after) (search needs) (c .copy-from-slice-2 .ensures .after) (search needs)
-        ∙ sym (cond-false _ _ _ good);
+          ∙ sym (cond-false _ _ _ good);
     }

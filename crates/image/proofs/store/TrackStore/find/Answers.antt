@@ -20,8 +20,8 @@ returns c =
     let e = cut (s .heads) (s .capacity) (s .cylinder) (c .args .head) (c .start-of-start .result) (s .memory .items) (c .deref .result .now) (c .deref .ensures .value) (c .start-of-start .ensures .value) in
     record {
       slot =
-        c .find-sector .ensures .slot
-        ∙ ap (λ (ss : List Sector). slot-of ss (c .args .number) (c .args .size))
-            (ap track-in e ∙ sym (track-inside (s .cylinders) (s .heads) (s .capacity) (s .memory .items) (s .cylinder) (c .args .head) (s .inside) (c .if-head-self .left)));
+          c .find-sector .ensures .slot
+          ∙ ap (λ (ss : List Sector). slot-of ss (c .args .number) (c .args .size))
+          (ap track-in e ∙ sym (track-inside (s .cylinders) (s .heads) (s .capacity) (s .memory .items) (s .cylinder) (c .args .head) (s .inside) (c .if-head-self .left)));
       found = found-in (c .find-sector .result) _ _ (c .args .size) _ (c .if-head-self .left) e (c .find-sector .ensures .found);
     }

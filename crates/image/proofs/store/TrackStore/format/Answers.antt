@@ -51,10 +51,22 @@ ghost-self c =
     let start = c .start-of-start .result in
     let e = cut (s .heads) (s .capacity) (s .cylinder) (c .args .head) start (s .memory .items) (c .deref-mut .result .now) (c .deref-mut .ensures .value) (c .start-of-start .ensures .value) in
     let long = c .format-track .kept .track ∙ ap length e ∙ calls.record-long s (c .args .head) below in
-    let items = stored (s .heads) (s .capacity) (s .cylinder) (c .args .head) start (s .memory .items) (c .deref-mut .result .now) (c .deref-mut .ensures .value) (c .start-of-start .ensures .value) (s .memory) refl (c .format-track .last .track) long (calls.record-room s (c .args .head) below) in
-    (s .inside, (s .headed, (s .small, (
-      ap length items ∙ calls.still-whole s (c .args .head) below (c .format-track .last .track) long, (
-      subst Bytes (sym items) (calls.still-bytes s (c .args .head) below (c .format-track .last .track) long (c .format-track .ensures .bytes)), tt)))))
+    let items = stored (s .heads) (s .capacity) (s .cylinder) (c .args .head) start (s .memory .items) (c .deref-mut .result .now) (c .deref-mut .ensures .value) (c .start-of-start .ensures .value) (s .memory) refl (c .format-track .last .track) long (calls.record-room s (c .args .head) below) in (
+      s .inside,
+      (
+        s .headed,
+        (
+          s .small,
+          (
+            ap length items ∙ calls.still-whole s (c .args .head) below (c .format-track .last .track) long,
+            (
+              subst Bytes (sym items) (calls.still-bytes s (c .args .head) below (c .format-track .last .track) long (c .format-track .ensures .bytes)),
+              tt,
+            ),
+          ),
+        ),
+      ),
+    )
 
 pub returns : need.returns
 returns c =
@@ -71,8 +83,8 @@ returns c =
     record {
       answer = formats.done-answer s (c .args .head) (c .args .ids .now) (c .args .size) free below (omega arith) (omega arith) fits;
       after =
-        ap (image-model (s .cylinders) (s .heads) (s .capacity) (s .protected) (s .cylinder)) items
-        ∙ formats.after-done s (c .args .head) (c .args .ids .now) (c .args .size) free below (omega arith) (omega arith) fits (c .args .check) _ four
-            (c .format-track .ensures .after ∙ ap (with-format (c .args .ids .now) (c .args .size) (c .args .check)) e);
+          ap (image-model (s .cylinders) (s .heads) (s .capacity) (s .protected) (s .cylinder)) items
+          ∙ formats.after-done s (c .args .head) (c .args .ids .now) (c .args .size) free below (omega arith) (omega arith) fits (c .args .check) _ four
+          (c .format-track .ensures .after ∙ ap (with-format (c .args .ids .now) (c .args .size) (c .args .check)) e);
       kept = (refl, refl);
     }

@@ -27,10 +27,22 @@ ghost-self c =
     let start = c .start-of-start .result in
     let e = cut (s .heads) (s .capacity) (s .cylinder) (c .args .head) start (s .memory .items) (c .deref-mut .result .now) (c .deref-mut .ensures .value) (c .start-of-start .ensures .value) in
     let long = c .write-slot .kept .track ∙ ap length e ∙ calls.record-long s (c .args .head) below in
-    let items = stored (s .heads) (s .capacity) (s .cylinder) (c .args .head) start (s .memory .items) (c .deref-mut .result .now) (c .deref-mut .ensures .value) (c .start-of-start .ensures .value) (s .memory) refl (c .write-slot .last .track) long (calls.record-room s (c .args .head) below) in
-    (s .inside, (s .headed, (s .small, (
-      ap length items ∙ calls.still-whole s (c .args .head) below (c .write-slot .last .track) long, (
-      subst Bytes (sym items) (calls.still-bytes s (c .args .head) below (c .write-slot .last .track) long (c .write-slot .ensures .bytes)), tt)))))
+    let items = stored (s .heads) (s .capacity) (s .cylinder) (c .args .head) start (s .memory .items) (c .deref-mut .result .now) (c .deref-mut .ensures .value) (c .start-of-start .ensures .value) (s .memory) refl (c .write-slot .last .track) long (calls.record-room s (c .args .head) below) in (
+      s .inside,
+      (
+        s .headed,
+        (
+          s .small,
+          (
+            ap length items ∙ calls.still-whole s (c .args .head) below (c .write-slot .last .track) long,
+            (
+              subst Bytes (sym items) (calls.still-bytes s (c .args .head) below (c .write-slot .last .track) long (c .write-slot .ensures .bytes)),
+              tt,
+            ),
+          ),
+        ),
+      ),
+    )
 
 pub returns : need.returns
 returns c =
@@ -46,8 +58,8 @@ returns c =
     record {
       answer = calls.write-there s (c .args .head) (c .args .number) (c .args .size) (c .in-Some .slot) (f .slot) below (f .found .1) _ e free _ (c .write-slot .ensures .answer);
       after =
-        ap (image-model (s .cylinders) (s .heads) (s .capacity) (s .protected) (s .cylinder)) items
-        ∙ calls.after-there s (c .args .head) (c .args .number) (c .args .size) (c .in-Some .slot) (f .slot) below (f .found .1) _ e free (c .args .buffer .now) _ (length-take-le _ _ (omega (arith, full .0, size-small (c .args .size)))) (full .1) (c .write-slot .ensures .after);
+          ap (image-model (s .cylinders) (s .heads) (s .capacity) (s .protected) (s .cylinder)) items
+          ∙ calls.after-there s (c .args .head) (c .args .number) (c .args .size) (c .in-Some .slot) (f .slot) below (f .found .1) _ e free (c .args .buffer .now) _ (length-take-le _ _ (omega (arith, full .0, size-small (c .args .size)))) (full .1) (c .write-slot .ensures .after);
       kept = (refl, refl);
     }
 
