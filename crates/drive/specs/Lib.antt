@@ -1,0 +1,5 @@
+pub mod Search
+pub mod Model
+pub mod Calls
+pub mod Bounds
+pub mod Empty

@@ -1,0 +1,8 @@
+-- The marks that are still to be looked at decide.
+use Prim.Native.Nat.{_-_}
+use mathlib.Core.Path.{_≡_}
+use Rattle.image.specs.Record.{marks-fit}
+use Rattle.image.proofs.record.marks_fit.Given as given
+
+abbrev pub Inv-loop-slot : given.InvT-loop-slot
+Inv-loop-slot l = marks-fit (l .track) (l .slot) (l .count - l .slot) ≡ marks-fit (l .track) 0 (l .count)

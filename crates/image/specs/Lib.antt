@@ -1,0 +1,4 @@
+pub mod Parts
+pub mod Record
+pub mod Image
+pub mod Store
