@@ -12,13 +12,11 @@ pub fn laws_stand<C: CheckCode>()
     ensures inverting { λ _. ⌜ Inverting (C·CheckCode .code) ⌝ }
     ensures combining { λ _. ⌜ Combining (C·CheckCode .code) ⌝ }
     ensures shows { λ _. ⌜ Burst-shows (C·CheckCode .code) ⌝ }
-{
-}
+{}
 
 // The check of either code is the remainder of a division, and the worked examples hold.
 pub fn theorems_stand()
     ensures crc { λ _. ⌜ Check-is-remainder crc-code ⌝ }
     ensures ecc { λ _. ⌜ Check-is-remainder ecc-code ⌝ }
     ensures examples { λ _. ⌜ Examples ⌝ }
-{
-}
+{}
