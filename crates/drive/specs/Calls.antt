@@ -1,12 +1,12 @@
 -- What each call on a drive answers and leaves.
 use mathlib.Core.Bool.{Bool, true, false, cond, _&&_}
-use mathlib.Core.List.{List, [], _∷_, _++_}
+use mathlib.Core.List.{List, _++_}
 use Prim.Native.Nat.{ℕ, _+_, _-_, _*_}
-use lib.Dec.{eqb, ltb, leb}
+use lib.Dec.{ltb, leb}
 use lib.ListN.{length, getD, set, take, drop}
 use Rattle.std.specs.declared.option.Option.{Option}
 use Rattle.std.specs.declared.option.Option.the-variants.{Some, None}
-use Rattle.sector.specs.Bits.{BitSet, inverted, from-bit}
+use Rattle.sector.specs.Bits.{inverted, from-bit}
 use Rattle.sector.specs.Sizes.{bytes-of}
 use Rattle.sector.specs.declared.size.SizeCode.{SizeCode}
 use Rattle.drive.specs.declared.buffer.SectorBuffer.{SectorBuffer}
@@ -19,7 +19,7 @@ use Rattle.drive.specs.declared.answers.Writing.{Writing}
 use Rattle.drive.specs.declared.answers.Writing.the-variants as writing
 use Rattle.drive.specs.declared.answers.Formatting.{Formatting}
 use Rattle.drive.specs.declared.answers.Formatting.the-variants as formatting
-use Rattle.drive.specs.Model.{Sector, no-sector, slot-of, rewritten, blank-track, Showing, no-id, no-data-mark, wrong-bits, Outlook, used-up, Change, sector, track, DriveModel, at-cylinder, with-outlook, with-track}
+use Rattle.drive.specs.Model.{Sector, no-sector, slot-of, rewritten, blank-track, Showing, no-id, no-data-mark, wrong-bits, used-up, sector, track, DriveModel, at-cylinder, with-outlook, with-track}
 
 -- ---- steps
 unfoldable pub step-answer : DriveModel → Stepping

@@ -1,8 +1,8 @@
 -- What the attempts at an image answer and leave.
 use mathlib.Core.Path.{_≡_, refl, sym, ap, ap₂, subst, _∙_}
-use mathlib.Core.Bool.{Bool, true, false, cond, _&&_}
-use mathlib.Core.List.{List, []}
-use Prim.Native.Nat.{ℕ, _+_, _-_, _*_, _<_, _≤_}
+use mathlib.Core.Bool.{Bool, true, false, cond}
+use mathlib.Core.List.{List}
+use Prim.Native.Nat.{ℕ, _+_, _*_, _<_, _≤_}
 use native.Mathlib.Omega.{arith}
 use lib.Dec.{eqb}
 use lib.ListN.{length, getD, set, take}
@@ -16,10 +16,10 @@ use Rattle.drive.specs.declared.answers.Reading.the-variants as reading
 use Rattle.drive.specs.declared.answers.Writing.{Writing}
 use Rattle.drive.specs.declared.answers.Writing.the-variants as writing
 use Rattle.drive.specs.Bounds.{Bytes}
-use Rattle.drive.specs.Model.{Sector, no-sector, intact, slot-of, rewritten, DriveModel, Outlook, with-outlook, replaced, Change, sector, with-track}
+use Rattle.drive.specs.Model.{Sector, no-sector, intact, slot-of, rewritten, DriveModel, with-outlook, replaced, Change, sector, with-track}
 use Rattle.drive.specs.Calls.{on-slot, delivered, track-under, attempted-at, written, read-answer, handed-over, after-read, write-answer, after-write}
 use Rattle.image.specs.declared.store.TrackStore.{TrackStore}
-use Rattle.image.specs.Parts.{part, over}
+use Rattle.image.specs.Parts.{over}
 use Rattle.image.specs.Record.{Slot, track-in, sector-at, mark-at, bad-mark, with-sector}
 use Rattle.image.specs.Image.{record-start, record-of, tracks-of, changed, head-of, image-layout, image-model, undamaged}
 use Rattle.image.specs.Store.{store-model}

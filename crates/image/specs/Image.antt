@@ -1,5 +1,5 @@
 -- How an image's memory holds its tracks: a record for each, cylinder by cylinder and head by head.
-use mathlib.Core.Bool.{Bool, true, false, cond, _&&_}
+use mathlib.Core.Bool.{Bool, true, cond, _&&_}
 use mathlib.Core.List.{List, []}
 use Prim.Native.Nat.{ℕ, _+_, _*_, _%_}
 use lib.Dec.{eqb, ltb, leb}
@@ -7,6 +7,8 @@ use Rattle.std.specs.declared.option.Option.{Option}
 use Rattle.std.specs.declared.option.Option.the-variants.{Some, None}
 use Rattle.drive.specs.Model.{Sector, intact, Outlook, Change, sector, track, Layout, DriveModel}
 use Rattle.drive.specs.Bounds.{Measures}
+use Rattle.drive.specs.declared.answers.Formatting.{Formatting}
+use Rattle.drive.specs.declared.answers.Formatting.the-variants as formatting
 use Rattle.image.specs.declared.refusal.Refusal.{Refusal}
 use Rattle.image.specs.declared.refusal.Refusal.the-variants.{Cylinders, Heads, Capacity, Memory}
 use Rattle.image.specs.Parts.{part, over}
@@ -60,6 +62,16 @@ image-model cylinders heads capacity protected cylinder memory =
       memory = memory;
       layout = image-layout heads capacity;
     }
+
+-- what stands first against a format of so many sectors of so many bytes, or that nothing does
+abbrev pub format-asked : Bool → ℕ → ℕ → ℕ → ℕ → ℕ → Formatting
+format-asked protected heads capacity head count bytes =
+    cond protected formatting.Protected
+    (cond (ltb head heads)
+    (cond (leb 1 count && leb count 64)
+    (cond (leb (count * bytes) capacity) formatting.Formatted formatting.TooLong)
+    formatting.BadCount)
+    formatting.BadHead)
 
 -- What stands against an image of a make with these limits, if anything does: its cylinders, its heads, its capacity, which is a
 -- multiple of 128 from 128 to 65,536, and the length of its memory, asked in this order.
