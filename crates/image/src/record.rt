@@ -30,8 +30,8 @@ fn marks_fit(track: &[u8], count: usize) -> bool
     requires { ⌜ 386 ≤ length (now track) ⌝ ∗ ⌜ count ≤ 64 ⌝ }
     ensures { λ r. ⌜ r ≡ marks-fit (now (track .entry)) 0 count ⌝ }
 {
-    for slot in 0..count {
-        let mark = track[3 + 2 * slot];
+    for place in 0..count {
+        let mark = track[3 + 2 * place];
         if mark != 0 && mark != BAD_MARK {
             return false;
         }
