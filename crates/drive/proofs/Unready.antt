@@ -1,9 +1,8 @@
 -- A drive that is not ready answers so, and stays as it is.
-use mathlib.Core.Path.{_≡_, refl, sym, ap}
-use mathlib.Core.Bool.{Bool, false, cond, _&&_}
+use mathlib.Core.Path.{_≡_, sym, ap}
+use mathlib.Core.Bool.{false}
 use mathlib.Core.List.{List}
 use Prim.Native.Nat.{ℕ}
-use lib.Dec.{ltb}
 use Rattle.std.proofs.shelf.Tests.{cond-false, and-left}
 use Rattle.sector.specs.declared.size.SizeCode.{SizeCode}
 use Rattle.drive.specs.declared.buffer.SectorBuffer.{SectorBuffer}
@@ -11,7 +10,6 @@ use Rattle.drive.specs.declared.answers.SectorId.{SectorId}
 use Rattle.drive.specs.declared.answers.Stepping.the-variants as stepping
 use Rattle.drive.specs.declared.answers.Reading.the-variants as reading
 use Rattle.drive.specs.declared.answers.Writing.the-variants as writing
-use Rattle.drive.specs.declared.answers.Formatting.{Formatting}
 use Rattle.drive.specs.declared.answers.Formatting.the-variants as formatting
 use Rattle.drive.specs.Model.{DriveModel}
 use Rattle.drive.specs.Calls.{step-answer, stepped-in, stepped-out, read-answer, handed-over, after-read, write-answer, after-write, format-answer, is-formatted, after-format}

@@ -1,12 +1,12 @@
 -- What each call on a drive answers and leaves.
-use mathlib.Core.Bool.{Bool, true, false, cond, _&&_}
-use mathlib.Core.List.{List, [], _∷_, _++_}
+use mathlib.Core.Bool.{Bool, true, false, cond, not, _&&_}
+use mathlib.Core.List.{List, _++_}
 use Prim.Native.Nat.{ℕ, _+_, _-_, _*_}
-use lib.Dec.{eqb, ltb, leb}
+use lib.Dec.{ltb, leb}
 use lib.ListN.{length, getD, set, take, drop}
 use Rattle.std.specs.declared.option.Option.{Option}
 use Rattle.std.specs.declared.option.Option.the-variants.{Some, None}
-use Rattle.sector.specs.Bits.{BitSet, inverted, from-bit}
+use Rattle.sector.specs.Bits.{inverted, from-bit}
 use Rattle.sector.specs.Sizes.{bytes-of}
 use Rattle.sector.specs.declared.size.SizeCode.{SizeCode}
 use Rattle.drive.specs.declared.buffer.SectorBuffer.{SectorBuffer}
@@ -19,11 +19,12 @@ use Rattle.drive.specs.declared.answers.Writing.{Writing}
 use Rattle.drive.specs.declared.answers.Writing.the-variants as writing
 use Rattle.drive.specs.declared.answers.Formatting.{Formatting}
 use Rattle.drive.specs.declared.answers.Formatting.the-variants as formatting
-use Rattle.drive.specs.Model.{Sector, no-sector, slot-of, rewritten, blank-track, Showing, no-id, no-data-mark, wrong-bits, Outlook, used-up, Change, sector, track, DriveModel, at-cylinder, with-outlook, with-track}
+use Rattle.drive.specs.Asking.{unless}
+use Rattle.drive.specs.Model.{Sector, no-sector, slot-of, rewritten, blank-track, Showing, no-id, no-data-mark, wrong-bits, used-up, sector, track, DriveModel, at-cylinder, with-outlook, with-track}
 
 -- ---- steps
 unfoldable pub step-answer : DriveModel → Stepping
-step-answer d = cond (d .ready) stepping.Stepped stepping.NotReady
+step-answer d = unless (d .ready) stepping.NotReady stepping.Stepped
 
 -- one cylinder in, or none at the last
 unfoldable pub stepped-in : DriveModel → DriveModel
@@ -66,10 +67,9 @@ read-of (wrong-bits w) = reading.Delivered
 
 unfoldable pub read-answer : DriveModel → ℕ → ℕ → SizeCode → Reading
 read-answer d head number size =
-    cond (d .ready)
+    unless (d .ready) reading.NotReady
     (attempted (shown d head number) (track-under d head) number size reading.NoId reading.BadBlock
     (λ _. read-of (shown d head number)))
-    reading.NotReady
 
 -- the buffer after a good sector was read: its bytes and check bytes, with the wrong bits inverted, over the front of what stood there
 abbrev pub delivered : Showing → Sector → SectorBuffer → SectorBuffer
@@ -83,20 +83,19 @@ delivered (wrong-bits w) s b =
 
 unfoldable pub handed-over : DriveModel → ℕ → ℕ → SizeCode → SectorBuffer → SectorBuffer
 handed-over d head number size b =
-    cond (d .ready)
+    unless (d .ready) b
     (attempted (shown d head number) (track-under d head) number size b b
     (λ k. delivered (shown d head number) (getD (track-under d head) k no-sector) b))
-    b
 
 unfoldable pub after-read : DriveModel → ℕ → ℕ → DriveModel
-after-read d head number = cond (d .ready) (attempted-at d head number) d
+after-read d head number = unless (d .ready) d (attempted-at d head number)
 
 unfoldable pub write-answer : DriveModel → ℕ → ℕ → SizeCode → Writing
 write-answer d head number size =
-    cond (d .ready)
-    (cond (d .protected) writing.Protected
-    (attempted (shown d head number) (track-under d head) number size writing.NoId writing.BadBlock (λ _. writing.Written)))
-    writing.NotReady
+    unless (d .ready) writing.NotReady
+    (unless (not (d .protected)) writing.Protected
+    (attempted (shown d head number) (track-under d head) number size writing.NoId writing.BadBlock
+    (λ _. writing.Written)))
 
 -- the drive after a write reached the sector at slot k: it has the buffer's first bytes, as many as its size, and the check bytes
 abbrev pub written : DriveModel → ℕ → SizeCode → SectorBuffer → ℕ → DriveModel
@@ -107,26 +106,23 @@ written d head size b k =
 
 unfoldable pub after-write : DriveModel → ℕ → ℕ → SizeCode → SectorBuffer → DriveModel
 after-write d head number size b =
-    cond (d .ready)
-    (cond (d .protected) d
+    unless (d .ready) d
+    (unless (not (d .protected)) d
     (attempted (shown d head number) (track-under d head) number size
     (attempted-at d head number)
     (attempted-at d head number)
     (written (attempted-at d head number) head size b)))
-    d
 
 -- ---- formats
 -- the first thing that stands against a format, or that nothing does
 unfoldable pub format-answer : DriveModel → ℕ → List SectorId → SizeCode → Formatting
 format-answer d head ids size =
-    cond (d .ready)
-    (cond (d .protected) formatting.Protected
-    (cond (ltb head (d .heads))
-    (cond (leb 1 (length ids) && leb (length ids) 64)
-    (cond (leb (length ids * bytes-of size) (d .capacity)) formatting.Formatted formatting.TooLong)
-    formatting.BadCount)
-    formatting.BadHead))
-    formatting.NotReady
+    unless (d .ready) formatting.NotReady
+    (unless (not (d .protected)) formatting.Protected
+    (unless (ltb head (d .heads)) formatting.BadHead
+    (unless (leb 1 (length ids) && leb (length ids) 64) formatting.BadCount
+    (unless (leb (length ids * bytes-of size) (d .capacity)) formatting.TooLong
+    formatting.Formatted))))
 
 abbrev pub is-formatted : Formatting → Bool
 is-formatted formatting.NotReady = false
@@ -139,6 +135,5 @@ is-formatted formatting.Formatted = true
 -- a format that nothing stands against replaces the track; any other changes nothing
 unfoldable pub after-format : DriveModel → ℕ → List SectorId → SizeCode → List ℕ → DriveModel
 after-format d head ids size check =
-    cond (is-formatted (format-answer d head ids size))
+    unless (is-formatted (format-answer d head ids size)) d
     (with-track d head (blank-track ids size check) (track head ids size check))
-    d

@@ -1,16 +1,14 @@
 -- What a drive is: its measures, its tracks, the outlook of its places and the memory behind them.
-use mathlib.Core.Bool.{Bool, true, false, cond, _&&_}
-use mathlib.Core.List.{List, [], _∷_, map}
-use Prim.Native.Nat.{ℕ, _+_, _*_}
+use mathlib.Core.Bool.{Bool, false, cond, _&&_}
+use mathlib.Core.List.{List, [], map}
+use Prim.Native.Nat.{ℕ, _+_}
 use lib.Dec.{eqb}
-use lib.ListN.{length, getD, set, take, drop, replicate}
+use lib.ListN.{replicate}
 use Rattle.std.specs.declared.option.Option.{Option}
-use Rattle.std.specs.declared.option.Option.the-variants.{Some, None}
-use Rattle.sector.specs.Bits.{BitSet, inverted, from-bit}
+use Rattle.sector.specs.Bits.{BitSet}
 use Rattle.sector.specs.Sizes.{bytes-of, number-of}
 use Rattle.sector.specs.declared.size.SizeCode.{SizeCode}
 use Rattle.sector.specs.declared.size.SizeCode.the-variants.{Bytes128}
-use Rattle.drive.specs.declared.buffer.SectorBuffer.{SectorBuffer}
 use Rattle.drive.specs.declared.answers.SectorId.{SectorId}
 use Rattle.drive.specs.Search.{first-match}
 

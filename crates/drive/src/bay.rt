@@ -1,5 +1,4 @@
 // Bays for drives of one make.
-ghost use mathlib.Core.Path.{_≡_};
 ghost use Rattle.std.specs.Of.Vec.{vec-items};
 ghost use Rattle.drive.specs.Empty.{empty-model};
 ghost use Rattle.drive.specs.declared.bay.Bay.the-variants.{Fitted, Empty};

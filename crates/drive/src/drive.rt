@@ -1,7 +1,5 @@
 // What every drive does.
 ghost use mathlib.Core.Path.{_≡_};
-ghost use mathlib.Core.List.{List};
-ghost use Prim.Native.Nat.{ℕ};
 ghost use Rattle.drive.specs.Model.{DriveModel};
 ghost use Rattle.drive.specs.Calls.{step-answer, stepped-in, stepped-out, read-answer, handed-over, after-read, write-answer, after-write, format-answer, after-format};
 ghost use Rattle.drive.specs.Bounds.{Measures, Limits, Bounded};

@@ -1,5 +1,4 @@
 // The bay without a drive.
-ghost use mathlib.Core.Path.{_≡_};
 ghost use mathlib.Core.List.{[]};
 ghost use Rattle.drive.specs.Empty.{empty-model};
 use super::answers::Formatting;

@@ -36,7 +36,13 @@ mod tests {
     }
 
     const fn row(cylinders: u16, heads: u8, capacity: u32, length: usize, number: u8) -> Asked {
-        Asked { cylinders, heads, capacity, length, number }
+        Asked {
+            cylinders,
+            heads,
+            capacity,
+            length,
+            number,
+        }
     }
 
     fn number_of(refusal: Option<Refusal>) -> u8 {
@@ -69,7 +75,13 @@ mod tests {
         ];
         for asked in rows {
             let memory = vec![in rt.alloc(); 0u8; asked.length]?;
-            let fitting = WinchesterImage::new(asked.cylinders, asked.heads, asked.capacity, false, memory);
+            let fitting = WinchesterImage::new(
+                asked.cylinders,
+                asked.heads,
+                asked.capacity,
+                false,
+                memory,
+            );
             check_eq(number_of(fitting.refusal), asked.number)?;
             check_eq(fitting.bay.is_ready(), asked.number == 0)?;
         }
@@ -87,7 +99,13 @@ mod tests {
         ];
         for asked in rows {
             let memory = vec![in rt.alloc(); 0u8; asked.length]?;
-            let fitting = FloppyImage::new(asked.cylinders, asked.heads, asked.capacity, false, memory);
+            let fitting = FloppyImage::new(
+                asked.cylinders,
+                asked.heads,
+                asked.capacity,
+                false,
+                memory,
+            );
             check_eq(number_of(fitting.refusal), asked.number)?;
             check_eq(fitting.bay.is_ready(), asked.number == 0)?;
         }
@@ -105,27 +123,72 @@ mod tests {
     #[test]
     fn tracks(rt: LibcRuntime) -> Result<(), Fail> {
         let rows = [
-            Header { bytes: [1, 0, 7, 0, 0, 0], answer: Reading::Delivered },
-            Header { bytes: [2, 0, 9, 0, 7, 0], answer: Reading::Delivered },
-            Header { bytes: [1, 0, 7, 0x80, 0, 0], answer: Reading::BadBlock },
-            Header { bytes: [2, 0, 7, 0x80, 7, 0], answer: Reading::BadBlock },
-            Header { bytes: [2, 0, 7, 0, 7, 0x80], answer: Reading::Delivered },
-            Header { bytes: [1, 0, 9, 0, 7, 0], answer: Reading::NoId },
-            Header { bytes: [1, 3, 7, 0, 0, 0], answer: Reading::NoId },
-            Header { bytes: [0, 0, 7, 0, 0, 0], answer: Reading::NoId },
-            Header { bytes: [65, 0, 7, 0, 0, 0], answer: Reading::NoId },
-            Header { bytes: [1, 4, 7, 0, 0, 0], answer: Reading::NoId },
-            Header { bytes: [1, 0, 7, 1, 0, 0], answer: Reading::NoId },
-            Header { bytes: [2, 0, 7, 0, 0, 0x81], answer: Reading::NoId },
-            Header { bytes: [3, 0, 7, 0, 0, 0], answer: Reading::NoId },
+            Header {
+                bytes: [1, 0, 7, 0, 0, 0],
+                answer: Reading::Delivered,
+            },
+            Header {
+                bytes: [2, 0, 9, 0, 7, 0],
+                answer: Reading::Delivered,
+            },
+            Header {
+                bytes: [1, 0, 7, 0x80, 0, 0],
+                answer: Reading::BadBlock,
+            },
+            Header {
+                bytes: [2, 0, 7, 0x80, 7, 0],
+                answer: Reading::BadBlock,
+            },
+            Header {
+                bytes: [2, 0, 7, 0, 7, 0x80],
+                answer: Reading::Delivered,
+            },
+            Header {
+                bytes: [1, 0, 9, 0, 7, 0],
+                answer: Reading::NoId,
+            },
+            Header {
+                bytes: [1, 3, 7, 0, 0, 0],
+                answer: Reading::NoId,
+            },
+            Header {
+                bytes: [0, 0, 7, 0, 0, 0],
+                answer: Reading::NoId,
+            },
+            Header {
+                bytes: [65, 0, 7, 0, 0, 0],
+                answer: Reading::NoId,
+            },
+            Header {
+                bytes: [1, 4, 7, 0, 0, 0],
+                answer: Reading::NoId,
+            },
+            Header {
+                bytes: [1, 0, 7, 1, 0, 0],
+                answer: Reading::NoId,
+            },
+            Header {
+                bytes: [2, 0, 7, 0, 0, 0x81],
+                answer: Reading::NoId,
+            },
+            Header {
+                bytes: [3, 0, 7, 0, 0, 0],
+                answer: Reading::NoId,
+            },
         ];
         for header in rows {
             let mut memory = vec![in rt.alloc(); 0u8; 898]?;
             check(memory.len() == 898)?;
             memory[0..6].copy_from_slice(&header.bytes);
             let mut bay = WinchesterImage::new(1, 1, 512, false, memory).bay;
-            let mut buffer = SectorBuffer { bytes: [1; 1024], check: [1; 4] };
-            check_eq(bay.read(0, 7, SizeCode::Bytes256, &mut buffer), header.answer)?;
+            let mut buffer = SectorBuffer {
+                bytes: [1; 1024],
+                check: [1; 4],
+            };
+            check_eq(
+                bay.read(0, 7, SizeCode::Bytes256, &mut buffer),
+                header.answer,
+            )?;
             let delivered = header.answer == Reading::Delivered;
             check_eq(buffer.bytes[255] == 0, delivered)?;
             check_eq(buffer.bytes[256], 1)?;
@@ -144,22 +207,63 @@ mod tests {
     fn written_and_read_back(rt: LibcRuntime) -> Result<(), Fail> {
         let memory = vec![in rt.alloc(); 9u8; 1796]?;
         let mut bay = FloppyImage::new(2, 1, 512, false, memory).bay;
-        let ids = [SectorId { number: 5, bad: false }, SectorId { number: 5, bad: true }];
+        let ids = [
+            SectorId {
+                number: 5,
+                bad: false,
+            },
+            SectorId {
+                number: 5,
+                bad: true,
+            },
+        ];
         bay.step_in();
-        check_eq(bay.format(1, &ids, SizeCode::Bytes256, [1, 2, 3, 4]), Formatting::BadHead)?;
-        check_eq(bay.format(0, &[], SizeCode::Bytes256, [1, 2, 3, 4]), Formatting::BadCount)?;
-        check_eq(bay.format(0, &ids, SizeCode::Bytes512, [1, 2, 3, 4]), Formatting::TooLong)?;
-        check_eq(bay.format(0, &ids, SizeCode::Bytes256, [1, 2, 3, 4]), Formatting::Formatted)?;
-        let mut buffer = SectorBuffer { bytes: [6; 1024], check: [7; 4] };
+        check_eq(
+            bay.format(1, &ids, SizeCode::Bytes256, [1, 2, 3, 4]),
+            Formatting::BadHead,
+        )?;
+        check_eq(
+            bay.format(0, &[], SizeCode::Bytes256, [1, 2, 3, 4]),
+            Formatting::BadCount,
+        )?;
+        check_eq(
+            bay.format(0, &ids, SizeCode::Bytes512, [1, 2, 3, 4]),
+            Formatting::TooLong,
+        )?;
+        check_eq(
+            bay.format(0, &ids, SizeCode::Bytes256, [1, 2, 3, 4]),
+            Formatting::Formatted,
+        )?;
+        let mut buffer = SectorBuffer {
+            bytes: [6; 1024],
+            check: [7; 4],
+        };
         check_eq(bay.write(0, 5, SizeCode::Bytes512, &buffer), Writing::NoId)?;
-        check_eq(bay.write(0, 5, SizeCode::Bytes256, &buffer), Writing::Written)?;
+        check_eq(
+            bay.write(0, 5, SizeCode::Bytes256, &buffer),
+            Writing::Written,
+        )?;
         buffer.bytes = [8; 1024];
-        check_eq(bay.read(0, 5, SizeCode::Bytes256, &mut buffer), Reading::Delivered)?;
+        check_eq(
+            bay.read(0, 5, SizeCode::Bytes256, &mut buffer),
+            Reading::Delivered,
+        )?;
         check(buffer.bytes[255] == 6 && buffer.bytes[256] == 8 && buffer.check[3] == 7)?;
         let memory = memory_of(bay);
         check(memory.len() == 1796)?;
         // the record of cylinder 1: its head, the first pair not used, the sectors' check bytes and the ends of their bytes
-        let expected = [(898, 2), (899, 0), (900, 5), (901, 0), (902, 5), (903, 0x80), (904, 9), (1028, 7), (1032, 1), (1036, 9)];
+        let expected = [
+            (898, 2),
+            (899, 0),
+            (900, 5),
+            (901, 0),
+            (902, 5),
+            (903, 0x80),
+            (904, 9),
+            (1028, 7),
+            (1032, 1),
+            (1036, 9),
+        ];
         for (place, byte) in expected {
             check_eq(memory.get(place).copied(), Some(byte))?;
         }
@@ -171,8 +275,17 @@ mod tests {
     fn protected(rt: LibcRuntime) -> Result<(), Fail> {
         let memory = vec![in rt.alloc(); 0u8; 514]?;
         let mut bay = WinchesterImage::new(1, 1, 128, true, memory).bay;
-        let buffer = SectorBuffer { bytes: [0; 1024], check: [0; 4] };
-        check_eq(bay.write(9, 0, SizeCode::Bytes128, &buffer), Writing::Protected)?;
-        check_eq(bay.format(9, &[], SizeCode::Bytes128, [0; 4]), Formatting::Protected)
+        let buffer = SectorBuffer {
+            bytes: [0; 1024],
+            check: [0; 4],
+        };
+        check_eq(
+            bay.write(9, 0, SizeCode::Bytes128, &buffer),
+            Writing::Protected,
+        )?;
+        check_eq(
+            bay.format(9, &[], SizeCode::Bytes128, [0; 4]),
+            Formatting::Protected,
+        )
     }
 }

@@ -1,19 +1,14 @@
 -- Reading and writing the sector in a slot.
-use mathlib.Core.Path.{_≡_, refl, sym, ap, ap₂, subst, _∙_}
-use mathlib.Core.List.{List, [], _∷_, _++_, map}
-use mathlib.Core.Logic.{_⊎_, inl, inr, ⊎-elim}
-use mathlib.Core.Bool.{Bool, true, false, cond, _&&_, _||_}
-use Prim.Native.Nat.{ℕ, zero, suc, _+_, _-_, _*_, _<_, _≤_}
+use mathlib.Core.Path.{_≡_, refl, sym, ap, ap₂, _∙_}
+use mathlib.Core.List.{List, _++_}
+use mathlib.Core.Bool.{false, cond}
+use Prim.Native.Nat.{ℕ, _+_, _-_, _*_, _<_, _≤_}
 use native.Mathlib.Nat.{mul-le-mul-right, add-mul}
 use native.Mathlib.Omega.{arith}
 use borrow.Rule.Slice.PartMut.{putMid}
-use lib.ListN.{length, getD, set, take, drop}
-use lib.Dec.{eqb, leb}
-use Rattle.std.specs.Iters.{counting}
-use Rattle.std.proofs.shelf.Lists.{same-lists, length-set, getD-set-same, getD-set-other}
-use Rattle.std.proofs.shelf.Counted.{getD-map-counting, length-map-counting}
-use Rattle.std.proofs.shelf.Tests.{cases-eq, cases-lt}
-use Rattle.sector.specs.Bits.{inverted, from-bit}
+use lib.ListN.{length, take, drop}
+use lib.Dec.{eqb}
+use Rattle.sector.specs.Bits.{inverted}
 use Rattle.sector.specs.Sizes.{bytes-of}
 use Rattle.sector.specs.declared.size.SizeCode.{SizeCode}
 use Rattle.sector.proofs.Inverted.{inverted-none}
@@ -21,11 +16,11 @@ use Rattle.drive.specs.declared.buffer.SectorBuffer.{SectorBuffer}
 use Rattle.drive.specs.Model.{Sector, no-sector, intact}
 use Rattle.drive.specs.Calls.{on-slot, delivered}
 use Rattle.image.specs.Parts.{part, over}
-use Rattle.image.specs.Record.{count-in, code-in, size-in, size-numbered, number-at, mark-at, bad-mark, marks-fit, formatted, sector-at, sectors-in, track-in, Slot, with-sector}
-use Rattle.image.proofs.Windows.{length-part, length-over, getD-over-outside, part-over-other, part-over-same, put-over}
+use Rattle.image.specs.Record.{count-in, size-in, mark-at, bad-mark, sector-at, track-in, Slot, with-sector}
+use Rattle.image.proofs.Windows.{length-part, put-over}
 use Rattle.image.proofs.Tracks.{held-at}
 use Rattle.std.specs.declared.option.Option.{Option}
-use Rattle.std.specs.declared.option.Option.the-variants.{Some, None}
+use Rattle.std.specs.declared.option.Option.the-variants.{Some}
 
 -- slots of one size stand apart
 pub apart : (i k z : ℕ) → i < k → i * z + z ≤ k * z

@@ -1,8 +1,8 @@
 -- What the attempts at an image answer and leave.
 use mathlib.Core.Path.{_≡_, refl, sym, ap, ap₂, subst, _∙_}
-use mathlib.Core.Bool.{Bool, true, false, cond, _&&_}
-use mathlib.Core.List.{List, []}
-use Prim.Native.Nat.{ℕ, _+_, _-_, _*_, _<_, _≤_}
+use mathlib.Core.Bool.{Bool, true, false, cond, not}
+use mathlib.Core.List.{List}
+use Prim.Native.Nat.{ℕ, _+_, _*_, _<_, _≤_}
 use native.Mathlib.Omega.{arith}
 use lib.Dec.{eqb}
 use lib.ListN.{length, getD, set, take}
@@ -16,14 +16,14 @@ use Rattle.drive.specs.declared.answers.Reading.the-variants as reading
 use Rattle.drive.specs.declared.answers.Writing.{Writing}
 use Rattle.drive.specs.declared.answers.Writing.the-variants as writing
 use Rattle.drive.specs.Bounds.{Bytes}
-use Rattle.drive.specs.Model.{Sector, no-sector, intact, slot-of, rewritten, DriveModel, Outlook, with-outlook, replaced, Change, sector, with-track}
+use Rattle.drive.specs.Model.{Sector, no-sector, intact, slot-of, rewritten, DriveModel, with-outlook, replaced, Change, sector, with-track}
 use Rattle.drive.specs.Calls.{on-slot, delivered, track-under, attempted-at, written, read-answer, handed-over, after-read, write-answer, after-write}
 use Rattle.image.specs.declared.store.TrackStore.{TrackStore}
-use Rattle.image.specs.Parts.{part, over}
+use Rattle.image.specs.Parts.{over}
 use Rattle.image.specs.Record.{Slot, track-in, sector-at, mark-at, bad-mark, with-sector}
 use Rattle.image.specs.Image.{record-start, record-of, tracks-of, changed, head-of, image-layout, image-model, undamaged}
 use Rattle.image.specs.Store.{store-model}
-use Rattle.std.proofs.shelf.Tests.{cond-true, cond-false}
+use Rattle.std.proofs.shelf.Tests.{cond-true, cond-false, not-from-true, not-from-false}
 use Rattle.image.proofs.Windows.{length-part, length-over, over-back}
 use Rattle.image.proofs.Cuts.{bytes-over}
 use Rattle.image.proofs.Tracks.{held-at}
@@ -98,11 +98,11 @@ module _ (s : TrackStore) (head : ℕ) where
   -- a protected image refuses, and stays
   pub write-protected : s .protected ≡ true → (number : ℕ) (size : SizeCode) → writing.Protected ≡ write-answer (store-model s) head number size
   unfolding write-answer
-  write-protected on number size = sym (cond-true (s .protected) _ _ on)
+  write-protected on number size = sym (cond-false (not (s .protected)) _ _ (not-from-true (s .protected) on))
 
   pub after-protected : s .protected ≡ true → (number : ℕ) (size : SizeCode) (b : SectorBuffer) → store-model s ≡ after-write (store-model s) head number size b
   unfolding after-write
-  after-protected on number size b = sym (cond-true (s .protected) _ _ on)
+  after-protected on number size b = sym (cond-false (not (s .protected)) _ _ (not-from-true (s .protected) on))
 
   module _ (number : ℕ) (size : SizeCode) where
     abbrev meant : Option ℕ
@@ -122,14 +122,14 @@ module _ (s : TrackStore) (head : ℕ) where
     unfolding write-answer
     write-missing free e =
         ap (λ (o : Option ℕ). on-slot o (track-under (store-model s) head) writing.NoId writing.BadBlock (λ _. writing.Written)) e
-        ∙ sym (cond-false (s .protected) _ _ free)
+        ∙ sym (cond-true (not (s .protected)) _ _ (not-from-false (s .protected) free))
 
     pub after-missing : s .protected ≡ false → None ≡ meant → (b : SectorBuffer) → store-model s ≡ after-write (store-model s) head number size b
     unfolding after-write
     after-missing free e b =
         sym (unused number)
         ∙ ap (λ (o : Option ℕ). on-slot o (track-under (store-model s) head) (attempted-at (store-model s) head number) (attempted-at (store-model s) head number) (written (attempted-at (store-model s) head number) head size b)) e
-        ∙ sym (cond-false (s .protected) _ _ free)
+        ∙ sym (cond-true (not (s .protected)) _ _ (not-from-false (s .protected) free))
 
     -- ---- with the sector meant in slot k; `r` is the record, as it is cut out of the memory
     module _ (k : ℕ) (there : Some k ≡ meant) (below : head < s .heads) (slot : Slot record-under size k) (r : List ℕ) (same : r ≡ record-under) where
@@ -157,7 +157,7 @@ module _ (s : TrackStore) (head : ℕ) where
       pub write-there : s .protected ≡ false → (a : Writing) → a ≡ cond (eqb (mark-at r k) bad-mark) writing.BadBlock writing.Written → a ≡ write-answer (store-model s) head number size
       unfolding write-answer
       write-there free a e =
-          e ∙ sym (on-cut writing.NoId writing.BadBlock (λ _. writing.Written)) ∙ sym (cond-false (s .protected) _ _ free)
+          e ∙ sym (on-cut writing.NoId writing.BadBlock (λ _. writing.Written)) ∙ sym (cond-true (not (s .protected)) _ _ (not-from-false (s .protected) free))
 
       -- the memory after the attempt, with the record laid back
       pub after-there : s .protected ≡ false → (b : SectorBuffer) (new : List ℕ) → length (take (bytes-of size) (b .bytes)) ≡ bytes-of size → length (b .check) ≡ 4 → new ≡ cond (eqb (mark-at r k) bad-mark) r (with-sector k (take (bytes-of size) (b .bytes)) (b .check) r) → image-model (s .cylinders) (s .heads) (s .capacity) (s .protected) (s .cylinder) (over (record-start (s .heads) (s .capacity) (s .cylinder) head) new memory) ≡ after-write (store-model s) head number size b
@@ -177,4 +177,4 @@ module _ (s : TrackStore) (head : ℕ) where
           ∙ ap₂ (cond (eqb (mark-at r k) bad-mark)) kept done
           ∙ ap (λ (d : DriveModel). cond (eqb (mark-at r k) bad-mark) d (written d head size b k)) (sym (unused number))
           ∙ sym (on-cut (attempted-at (store-model s) head number) (attempted-at (store-model s) head number) (written (attempted-at (store-model s) head number) head size b))
-          ∙ sym (cond-false (s .protected) _ _ free)
+          ∙ sym (cond-true (not (s .protected)) _ _ (not-from-false (s .protected) free))

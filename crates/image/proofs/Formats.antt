@@ -1,24 +1,24 @@
 -- The record after a format.
 use mathlib.Core.Path.{_≡_, refl, sym, ap, ap₂, subst, _∙_}
-use mathlib.Core.List.{List, [], _∷_, _++_, map}
-use mathlib.Core.Logic.{inl, inr}
-use mathlib.Core.Bool.{Bool, true, false, cond, _&&_, _||_}
+use mathlib.Core.List.{List, [], _∷_, map}
+use mathlib.Core.Logic.{inl}
+use mathlib.Core.Bool.{Bool, true, false, cond, _||_}
 use Prim.Native.Nat.{ℕ, zero, suc, _+_, _-_, _*_, _<_, _≤_}
 use native.Mathlib.Omega.{arith}
 use borrow.Rule.Slice.PartMut.{putMid}
-use lib.ListN.{length, getD, set, take, drop, replicate}
-use lib.Dec.{eqb, leb}
+use lib.ListN.{length, getD, set, take, replicate}
+use lib.Dec.{eqb}
 use Rattle.std.specs.Iters.{counting}
 use Rattle.std.specs.Joined.{joined}
 use Rattle.std.proofs.shelf.Lists.{length-replicate, length-map, getD-map, same-lists, take-replicate, drop-replicate}
 use Rattle.std.proofs.shelf.Counted.{getD-map-counting, length-map-counting}
-use Rattle.std.proofs.shelf.Tests.{and-from, or-left, or-right, le-leb, eq-eqb, cases-bool}
+use Rattle.std.proofs.shelf.Tests.{and-from, le-leb}
 use Rattle.sector.specs.Sizes.{bytes-of, number-of}
 use Rattle.sector.specs.declared.size.SizeCode.{SizeCode}
 use Rattle.drive.specs.declared.answers.SectorId.{SectorId}
-use Rattle.drive.specs.Model.{Sector, blank-sector, blank-track}
+use Rattle.drive.specs.Model.{blank-sector, blank-track}
 use Rattle.image.specs.Parts.{part, over}
-use Rattle.image.specs.Record.{count-in, code-in, size-in, size-numbered, number-at, mark-at, bad-mark, marks-fit, formatted, sector-at, sectors-in, track-in, pair-of, with-format}
+use Rattle.image.specs.Record.{count-in, code-in, size-in, size-numbered, number-at, mark-at, bad-mark, marks-fit, formatted, sector-at, track-in, pair-of, with-format}
 use Rattle.image.proofs.Windows.{length-over, getD-over-outside, getD-over-inside, getD-part, part-over-other, part-over-part, put-over, put-front, over-more, set-two}
 use Rattle.image.proofs.Pieces.{length-joined, joined-part}
 use Rattle.image.proofs.Tracks.{numbered, number-small, held}
@@ -66,16 +66,16 @@ module _ (ids : List SectorId) (size : SizeCode) (check r : List ℕ) (few : len
   format-long =
       length-over 386 (replicate (length ids * bytes-of size) 0) checked (omega (arith, checked-long, length-replicate {A = ℕ} (length ids * bytes-of size) 0)) ∙ checked-long
 
-  -- what the three writes of a format leave
-  pub format-is : (n m : ℕ) (p c z : List ℕ) → n ≡ number-of size → m ≡ bytes-of size
-      → (base : List ℕ) → base ≡ set (set r 0 (length ids)) 1 n
+  -- what the four writes of a format leave
+  pub format-is : (m : ℕ) (base p c z : List ℕ) → m ≡ bytes-of size
+      → base ≡ set (set r 0 (length ids)) 1 (number-of size)
       → p ≡ over 0 pairs (part 2 128 base)
       → c ≡ over 0 checks (part 130 256 (putMid 2 128 base p))
       → z ≡ replicate (length ids * m) 0
       → putMid 386 ((386 + length ids * m) - 386) (putMid 130 256 (putMid 2 128 base p) c) z ≡ with-format ids size check r
-  format-is n m p c z en em base eb ep ec ez =
+  format-is m base p c z em eb ep ec ez =
       let two : base ≡ over 0 (length ids ∷ number-of size ∷ []) r =
-      eb ∙ ap (λ (t : ℕ). set (set r 0 (length ids)) 1 t) en ∙ set-two (length ids) (number-of size) r (omega arith) in
+      eb ∙ set-two (length ids) (number-of size) r (omega arith) in
       let long : length base ≡ length r = ap length two ∙ length-over 0 (length ids ∷ number-of size ∷ []) r (omega arith) in
       let first : putMid 2 128 base p ≡ headed =
       ap (putMid 2 128 base) ep ∙ put-front 2 130 pairs base (omega arith) (omega arith) (omega (arith, pairs-long))

@@ -1,16 +1,16 @@
 -- One record changes, and the other tracks do not.
-use mathlib.Core.Path.{_≡_, refl, sym, ap, subst, _∙_, fun-ext}
+use mathlib.Core.Path.{_≡_, refl, sym, ap, _∙_, fun-ext}
 use mathlib.Core.List.{List, []}
 use mathlib.Core.Logic.{_⊎_, inl, inr, ⊎-elim}
 use mathlib.Core.Bool.{Bool, true, false, cond, _&&_}
-use Prim.Native.Nat.{ℕ, _+_, _-_, _*_, _/_, _%_, _<_, _≤_}
+use Prim.Native.Nat.{ℕ, _+_, _*_, _/_, _%_, _<_, _≤_}
 use native.Mathlib.Nat.{mul-comm}
 use native.Mathlib.Omega.{arith}
 use lib.Dec.{eqb, ltb}
-use lib.ListN.{length, take, drop}
+use lib.ListN.{length}
 use Rattle.std.proofs.shelf.Bits.{mul-add-lt, div-mul-add, mod-mul-add}
 use Rattle.std.proofs.shelf.Tests.{cases-bool, cases-lt, cases-order, eqb-true, eqb-false, lt-ltb, le-ltb, and-parts, and-from, and-left, and-right, and-cases, cond-true, cond-false}
-use Rattle.drive.specs.Model.{Sector, intact, Outlook, used-up, replaced}
+use Rattle.drive.specs.Model.{intact, used-up, replaced}
 use Rattle.image.specs.Parts.{part, over}
 use Rattle.image.specs.Record.{track-in}
 use Rattle.image.specs.Image.{record-start, record-of, tracks-of, undamaged}

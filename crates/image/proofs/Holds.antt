@@ -1,29 +1,29 @@
 -- What holds of every image.
-use mathlib.Core.Path.{_≡_, refl, sym, ap, subst, _∙_}
-use mathlib.Core.Bool.{Bool, true, false, cond, _&&_}
+use mathlib.Core.Path.{_≡_, sym, subst}
+use mathlib.Core.Bool.{true, _&&_}
 use mathlib.Core.List.{List, []}
 use mathlib.Core.Logic.{⊎-elim}
 use Prim.Native.Nat.{ℕ, _+_, _*_, _<_, _≤_}
 use native.Mathlib.Omega.{arith}
 use lib.Dec.{ltb}
-use lib.ListN.{length, getD}
+use lib.ListN.{length}
 use Rattle.std.specs.shelf.Lists.{All}
 use Rattle.std.proofs.shelf.Counted.{getD-map-counting, length-map-counting}
 use Rattle.std.proofs.shelf.Elements.{all-from-getD}
 use Rattle.std.proofs.shelf.Lists.{getD-past, length-take, length-drop}
 use Rattle.std.proofs.shelf.Tests.{cond-both, cases-lt}
 use Rattle.sector.specs.Sizes.{bytes-of}
-use Rattle.drive.specs.Model.{Sector, no-sector}
+use Rattle.drive.specs.Model.{no-sector}
 use Rattle.drive.specs.Bounds.{Measures, Bytes, Whole, Bounded}
 use Rattle.image.specs.declared.store.TrackStore.{TrackStore}
 use Rattle.image.specs.Parts.{part}
 use Rattle.image.specs.Record.{count-in, size-in, formatted, sector-at, sectors-in, track-in}
-use Rattle.image.specs.Image.{record-start, record-of, tracks-of}
+use Rattle.image.specs.Image.{record-start, record-of}
 use Rattle.image.specs.Store.{store-model}
 use Rattle.image.proofs.Windows.{length-part, getD-part}
 use Rattle.image.proofs.Tracks.{shape-of, size-some}
 use Rattle.image.proofs.Attempts.{apart}
-use Rattle.image.proofs.Frames.{record-inside, track-past-heads, track-past-cylinders}
+use Rattle.image.proofs.Frames.{track-past-heads, track-past-cylinders}
 
 -- a part of bytes
 bytes-part : (a n : ℕ) (xs : List ℕ) → Bytes xs → Bytes (part a n xs)

@@ -1,15 +1,15 @@
 -- The track that a record holds, sector by sector.
 use mathlib.Core.Path.{_≡_, refl, sym, ap, _∙_}
-use mathlib.Core.List.{List, [], map}
-use mathlib.Core.Bool.{Bool, true, false, cond, _&&_, _||_}
+use mathlib.Core.List.{List, []}
+use mathlib.Core.Logic.{inl, inr, ⊎-elim}
+use mathlib.Core.Bool.{true, false, cond, _&&_, _||_}
 use Prim.Native.Nat.{ℕ, zero, suc, _+_, _-_, _*_, _<_, _≤_}
 use native.Mathlib.Omega.{arith}
 use lib.ListN.{length, getD, drop}
-use lib.Dec.{eqb, leb}
-use Rattle.std.specs.Iters.{counting}
+use lib.Dec.{eqb}
 use Rattle.std.proofs.shelf.Lists.{at-drop-more, at-drop-all}
 use Rattle.std.proofs.shelf.Counted.{getD-map-counting, length-map-counting}
-use Rattle.std.proofs.shelf.Tests.{and-parts, leb-true, cond-true, cond-false}
+use Rattle.std.proofs.shelf.Tests.{and-parts, and-from, leb-true, eqb-true, eq-eqb, cases-bool, cond-true, cond-false}
 use Rattle.std.specs.declared.option.Option.{Option}
 use Rattle.std.specs.declared.option.Option.the-variants.{Some, None}
 use Rattle.sector.specs.Sizes.{bytes-of, number-of}
@@ -17,7 +17,7 @@ use Rattle.sector.specs.declared.size.SizeCode.{SizeCode}
 use Rattle.sector.specs.declared.size.SizeCode.the-variants.{Bytes256, Bytes512, Bytes1024, Bytes128}
 use Rattle.drive.specs.Search.{first-from}
 use Rattle.drive.specs.Model.{Sector, no-sector, is-meant, slot-of}
-use Rattle.image.specs.Record.{count-in, code-in, size-in, size-numbered, number-at, mark-at, bad-mark, marks-fit, formatted, sector-at, sectors-in, track-in}
+use Rattle.image.specs.Record.{count-in, code-in, size-in, size-numbered, number-at, mark-at, bad-mark, marks-fit, formatted, sector-at, sectors-in, track-in, Labelled}
 
 -- ---- size codes
 pub size-small : (size : SizeCode) → bytes-of size ≤ 1024
@@ -105,3 +105,26 @@ slot-all r number size i e h =
 
 pub slot-unformatted : (r : List ℕ) (number : ℕ) (size : SizeCode) → formatted r ≡ false → slot-of (track-in r) number size ≡ None
 slot-unformatted r number size e = ap (λ (ss : List Sector). slot-of ss number size) (cond-false (formatted r) (sectors-in r) [] e)
+
+-- slots that are not labelled so are passed over
+pub slots-passed : (r : List ℕ) (number : ℕ) (size : SizeCode) (n i k : ℕ) → i + n ≡ k → k ≤ count-in r → formatted r ≡ true → ((j : ℕ) → j < k → Labelled r number (number-of size) j → ⊥) → slots-from r number size i ≡ slots-from r number size k
+slots-passed r number size zero i k e h f no-one = let same : i ≡ k = omega arith in ap (slots-from r number size) same
+slots-passed r number size (suc n) i k e h f no-one =
+    slot-more r number size i f (omega arith)
+    ∙ cond-false _ (Some i) (slots-from r number size (i + 1))
+    (⊎-elim (λ s. s) (λ t. absurd (no-one i (omega arith) (let p = and-parts _ _ t in (eqb-true _ _ (p .0), eqb-true _ _ (p .1)))))
+    (⊎-elim (λ t. inr t) (λ s. inl s) (cases-bool (eqb (number-at r i) number && eqb (code-in r) (number-of size)))))
+    ∙ slots-passed r number size n (i + 1) k (omega arith) h f no-one
+
+-- the first slot that is labelled so holds the sector meant
+pub slot-first : (r : List ℕ) (number : ℕ) (size : SizeCode) (k : ℕ) → k < count-in r → formatted r ≡ true → ((j : ℕ) → j < k → Labelled r number (number-of size) j → ⊥) → Labelled r number (number-of size) k → Some k ≡ slot-of (track-in r) number size
+slot-first r number size k h f no-one one =
+    sym (slots-passed r number size k 0 k (omega arith) (omega arith) f no-one
+    ∙ slot-more r number size k f h
+    ∙ cond-true _ (Some k) _ (and-from _ _ (eq-eqb _ _ (one .0)) (eq-eqb _ _ (one .1))))
+
+-- and without one there is none
+pub slot-none : (r : List ℕ) (number : ℕ) (size : SizeCode) → formatted r ≡ true → ((j : ℕ) → j < count-in r → Labelled r number (number-of size) j → ⊥) → None ≡ slot-of (track-in r) number size
+slot-none r number size f no-one =
+    sym (slots-passed r number size (count-in r) 0 (count-in r) (omega arith) (omega arith) f no-one
+    ∙ slot-all r number size (count-in r) f (omega arith))

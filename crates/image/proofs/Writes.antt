@@ -1,12 +1,12 @@
 -- The track after a sector of its record is written: the sector in that slot is new, and the others stand.
-use mathlib.Core.Path.{_≡_, refl, sym, ap, ap₂, subst, _∙_}
+use mathlib.Core.Path.{_≡_, refl, sym, ap, ap₂, _∙_}
 use mathlib.Core.List.{List, map}
 use mathlib.Core.Logic.{_⊎_, inl, inr, ⊎-elim}
-use mathlib.Core.Bool.{true, _&&_, _||_}
-use Prim.Native.Nat.{ℕ, zero, suc, _+_, _-_, _*_, _<_, _≤_}
+use mathlib.Core.Bool.{true}
+use Prim.Native.Nat.{ℕ, zero, suc, _+_, _*_, _<_, _≤_}
 use native.Mathlib.Omega.{arith}
 use lib.ListN.{length, getD, set}
-use lib.Dec.{eqb, leb}
+use lib.Dec.{eqb}
 use Rattle.std.specs.Iters.{counting}
 use Rattle.std.proofs.shelf.Lists.{same-lists, length-set, getD-set-same, getD-set-other}
 use Rattle.std.proofs.shelf.Counted.{getD-map-counting, length-map-counting}
@@ -15,7 +15,7 @@ use Rattle.sector.specs.Sizes.{bytes-of}
 use Rattle.sector.specs.declared.size.SizeCode.{SizeCode}
 use Rattle.drive.specs.Model.{Sector, no-sector, rewritten}
 use Rattle.image.specs.Parts.{part, over}
-use Rattle.image.specs.Record.{count-in, code-in, size-in, size-numbered, number-at, mark-at, bad-mark, marks-fit, formatted, sector-at, sectors-in, track-in, Slot, with-sector}
+use Rattle.image.specs.Record.{count-in, code-in, size-in, size-numbered, bad-mark, marks-fit, formatted, sector-at, sectors-in, track-in, Slot, with-sector}
 use Rattle.image.proofs.Windows.{length-over, getD-over-outside, part-over-other, part-over-same}
 use Rattle.image.proofs.Tracks.{shape-of, held, held-at}
 use Rattle.image.proofs.Attempts.{apart, bytes-fit, check-fits, sector-size}

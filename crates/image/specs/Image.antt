@@ -1,12 +1,15 @@
 -- How an image's memory holds its tracks: a record for each, cylinder by cylinder and head by head.
-use mathlib.Core.Bool.{Bool, true, false, cond, _&&_}
+use mathlib.Core.Bool.{Bool, true, cond, not, _&&_}
 use mathlib.Core.List.{List, []}
 use Prim.Native.Nat.{ℕ, _+_, _*_, _%_}
 use lib.Dec.{eqb, ltb, leb}
 use Rattle.std.specs.declared.option.Option.{Option}
 use Rattle.std.specs.declared.option.Option.the-variants.{Some, None}
+use Rattle.drive.specs.Asking.{unless}
 use Rattle.drive.specs.Model.{Sector, intact, Outlook, Change, sector, track, Layout, DriveModel}
 use Rattle.drive.specs.Bounds.{Measures}
+use Rattle.drive.specs.declared.answers.Formatting.{Formatting}
+use Rattle.drive.specs.declared.answers.Formatting.the-variants as formatting
 use Rattle.image.specs.declared.refusal.Refusal.{Refusal}
 use Rattle.image.specs.declared.refusal.Refusal.the-variants.{Cylinders, Heads, Capacity, Memory}
 use Rattle.image.specs.Parts.{part, over}
@@ -61,17 +64,24 @@ image-model cylinders heads capacity protected cylinder memory =
       layout = image-layout heads capacity;
     }
 
+-- what stands first against a format of so many sectors of so many bytes, or that nothing does
+abbrev pub format-asked : Bool → ℕ → ℕ → ℕ → ℕ → ℕ → Formatting
+format-asked protected heads capacity head count bytes =
+    unless (not protected) formatting.Protected
+    (unless (ltb head heads) formatting.BadHead
+    (unless (leb 1 count && leb count 64) formatting.BadCount
+    (unless (leb (count * bytes) capacity) formatting.TooLong
+    formatting.Formatted)))
+
 -- What stands against an image of a make with these limits, if anything does: its cylinders, its heads, its capacity, which is a
 -- multiple of 128 from 128 to 65,536, and the length of its memory, asked in this order.
 abbrev pub refusal-of : Measures → ℕ → ℕ → ℕ → ℕ → Option Refusal
 refusal-of most cylinders heads capacity length =
-    cond (leb 1 cylinders && leb cylinders (most .cylinders))
-    (cond (leb 1 heads && leb heads (most .heads))
-    (cond (leb 128 capacity && (leb capacity 65536 && eqb (capacity % 128) 0))
-    (cond (eqb length ((cylinders * heads) * (386 + capacity))) None (Some Memory))
-    (Some Capacity))
-    (Some Heads))
-    (Some Cylinders)
+    unless (leb 1 cylinders && leb cylinders (most .cylinders)) (Some Cylinders)
+    (unless (leb 1 heads && leb heads (most .heads)) (Some Heads)
+    (unless (leb 128 capacity && (leb capacity 65536 && eqb (capacity % 128) 0)) (Some Capacity)
+    (unless (eqb length ((cylinders * heads) * (386 + capacity))) (Some Memory)
+    None)))
 
 -- the refusals by number
 abbrev pub refusal-number : Refusal → ℕ

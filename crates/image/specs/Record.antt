@@ -1,8 +1,8 @@
 -- A track record: a count, a size code, 64 pairs of number and mark, 64 times four check bytes, and the sectors' bytes, in order.
 -- So pair i stands at 2 + 2 i, check bytes i at 130 + 4 i, and the bytes of sector i at 386 + i times the size.
 use mathlib.Core.Path.{_≡_}
-use mathlib.Core.List.{List, [], _∷_, _++_, map}
-use mathlib.Core.Bool.{Bool, true, false, cond, _&&_, _||_}
+use mathlib.Core.List.{List, [], _∷_, map}
+use mathlib.Core.Bool.{Bool, true, cond, _&&_, _||_}
 use Prim.Native.Nat.{ℕ, zero, suc, _+_, _-_, _*_, _<_, _≤_}
 use lib.Dec.{eqb, leb}
 use lib.ListN.{length, getD, replicate}
@@ -74,6 +74,10 @@ sectors-in r = map (sector-at r) (counting 0 (count-in r))
 -- the track that a record holds: one that is not formatted has no sectors
 abbrev pub track-in : List ℕ → List Sector
 track-in r = cond (formatted r) (sectors-in r) []
+
+-- a slot with this number, in a record with this size code
+abbrev pub Labelled : List ℕ → ℕ → ℕ → ℕ → Type 0
+Labelled r number code k = (number-at r k ≡ number) × (code-in r ≡ code)
 
 -- a slot of a formatted record whose sectors have this size
 pub record Slot (r : List ℕ) (size : SizeCode) (k : ℕ) : Type 0 where

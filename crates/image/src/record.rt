@@ -3,7 +3,7 @@ ghost use mathlib.Core.Path.{_≡_};
 ghost use mathlib.Core.Bool.{cond};
 ghost use Prim.Native.Nat.{ℕ, _+_, _*_, _<_, _≤_};
 ghost use lib.Dec.{eqb};
-ghost use lib.ListN.{length, take};
+ghost use lib.ListN.{length, set, take};
 ghost use Rattle.std.specs.Joined.{joined};
 ghost use Rattle.std.specs.Options.{Cases as BySome};
 ghost use Rattle.drive.specs.Model.{slot-of, intact};
@@ -11,8 +11,8 @@ ghost use Rattle.drive.specs.Bounds.{Bytes};
 ghost use Rattle.drive.specs.Calls.{delivered};
 ghost use Rattle.drive.specs.declared.answers.Reading.the-variants as reading;
 ghost use Rattle.drive.specs.declared.answers.Writing.the-variants as writing;
-ghost use Rattle.sector.specs.Sizes.{bytes-of};
-ghost use Rattle.image.specs.Record.{formatted, marks-fit, mark-at, bad-mark, sector-at, track-in, Slot, with-sector, pair-of, with-format};
+ghost use Rattle.sector.specs.Sizes.{bytes-of, number-of};
+ghost use Rattle.image.specs.Record.{formatted, marks-fit, mark-at, bad-mark, sector-at, track-in, Labelled, Slot, with-sector, pair-of, with-format};
 ghost use Rattle.image.specs.Parts.{over};
 use drive::Reading;
 use drive::SectorBuffer;
@@ -30,8 +30,8 @@ fn marks_fit(track: &[u8], count: usize) -> bool
     requires { ⌜ 386 ≤ length (now track) ⌝ ∗ ⌜ count ≤ 64 ⌝ }
     ensures { λ r. ⌜ r ≡ marks-fit (now (track .entry)) 0 count ⌝ }
 {
-    for slot in 0..count {
-        let mark = track[3 + 2 * slot];
+    for place in 0..count {
+        let mark = track[3 + 2 * place];
         if mark != 0 && mark != BAD_MARK {
             return false;
         }
@@ -54,6 +54,21 @@ fn is_formatted(track: &[u8]) -> bool
         && marks_fit(track, count)
 }
 
+// The first of `count` slots with this number, if the record has this size code; else `count`.
+fn first_slot(track: &[u8], count: usize, number: u8, code: u8) -> usize
+    requires { ⌜ 386 ≤ length (now track) ⌝ ∗ ⌜ count ≤ 64 ⌝ }
+    ensures within { λ r. ⌜ r ≤ count ⌝ }
+    ensures before { λ r. ⌜ ((k : ℕ) → k < r → Labelled (now (track .entry)) number code k → ⊥) ⌝ }
+    ensures found { λ r. ⌜ (r < count → Labelled (now (track .entry)) number code r) ⌝ }
+{
+    for slot in 0..count {
+        if track[2 + 2 * slot] == number && track[1] == code {
+            return slot;
+        }
+    }
+    count
+}
+
 // The slot of the first sector with this number and size.
 pub fn find_sector(track: &[u8], number: u8, size: SizeCode) -> Option<usize>
     requires { ⌜ 386 ≤ length (now track) ⌝ }
@@ -64,12 +79,8 @@ pub fn find_sector(track: &[u8], number: u8, size: SizeCode) -> Option<usize>
         return None;
     }
     let count = track[0] as usize;
-    for slot in 0..count {
-        if track[2 + 2 * slot] == number && track[1] == size.number() {
-            return Some(slot);
-        }
-    }
-    None
+    let slot = first_slot(track, count, number, size.number());
+    if slot < count { Some(slot) } else { None }
 }
 
 // Reads the sector in a slot, unless it is marked bad.
@@ -132,14 +143,22 @@ fn write_checks(checks: &mut [u8], ids: &[SectorId], check: [u8; 4])
     }
 }
 
+// Writes the count and the size code.
+fn write_head(track: &mut [u8], count: usize, size: SizeCode)
+    requires { ⌜ 2 ≤ length (now track) ⌝ ∗ ⌜ count ≤ 64 ⌝ }
+    ensures { λ _. ⌜ now (track .exit) ≡ set (set (now (track .entry)) 0 count) 1 (number-of size) ⌝ }
+{
+    track[0] = count as u8;
+    track[1] = size.number();
+}
+
 // Makes the record one of sectors with these IDs, of this size, with zero bytes and these check bytes.
 pub fn format_track(track: &mut [u8], ids: &[SectorId], size: SizeCode, check: [u8; 4])
     requires { ⌜ length (now ids) ≤ 64 ⌝ ∗ ⌜ 386 + length (now ids) * bytes-of size ≤ length (now track) ⌝ }
     ensures after { λ _. ⌜ now (track .exit) ≡ with-format (now (ids .entry)) size check (now (track .entry)) ⌝ }
     ensures bytes { λ _. ⌜ Bytes (now (track .exit)) ⌝ }
 {
-    track[0] = ids.len() as u8;
-    track[1] = size.number();
+    write_head(track, ids.len(), size);
     write_pairs(&mut track[2..130], ids);
     write_checks(&mut track[130..HEADER], ids, check);
     let used = ids.len() * size.bytes();

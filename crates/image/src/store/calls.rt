@@ -1,12 +1,15 @@
 // The calls on a store of tracks.
 ghost use mathlib.Core.Path.{_≡_};
-ghost use Prim.Native.Nat.{ℕ, _+_, _*_, _<_, _≤_};
+ghost use Prim.Native.Nat.{_+_, _*_, _<_, _≤_};
+ghost use lib.ListN.{length};
 ghost use Rattle.std.specs.Of.Vec.{vec-items};
 ghost use Rattle.std.specs.Options.{Cases as BySome};
 ghost use Rattle.drive.specs.Model.{slot-of};
 ghost use Rattle.drive.specs.Calls.{track-under, step-answer, stepped-in, stepped-out, read-answer, handed-over, after-read, write-answer, after-write, format-answer, after-format};
 ghost use Rattle.image.specs.Record.{Slot};
-ghost use Rattle.image.specs.Image.{record-start, record-of};
+ghost use Rattle.drive.specs.declared.answers.Formatting.the-variants.{NotReady, Protected, BadHead, BadCount, TooLong, Formatted};
+ghost use Rattle.sector.specs.Sizes.{bytes-of};
+ghost use Rattle.image.specs.Image.{record-start, record-of, format-asked};
 ghost use Rattle.image.specs.Store.{store-model};
 use super::super::record::HEADER;
 use super::super::record::find_sector;
@@ -77,13 +80,20 @@ impl TrackStore {
         Stepping::Stepped
     }
 
+    // How many records stand before that of a track under the head.
+    fn place_of(&self, head: u8) -> usize
+        ensures { λ r. ⌜ r ≡ now (self .entry) .cylinder * now (self .entry) .heads + head ⌝ }
+    {
+        self.cylinder as usize * self.heads as usize + head as usize
+    }
+
     // Where the record of a track under the head starts.
     fn start_of(&self, head: u8) -> usize
+        requires { ⌜ head < now self .heads ⌝ }
         ensures value { λ r. ⌜ r ≡ record-start (now (self .entry) .heads) (now (self .entry) .capacity) (now (self .entry) .cylinder) head ⌝ }
-        ensures low { λ r. ⌜ r ≤ 16777215 * 65922 ⌝ }
+        ensures inside { λ r. ⌜ r + (386 + now (self .entry) .capacity) ≤ length (vec-items (now (self .entry) .memory)) ⌝ }
     {
-        let place = self.cylinder as usize * self.heads as usize + head as usize;
-        place * (HEADER + self.capacity as usize)
+        self.place_of(head) * (HEADER + self.capacity as usize)
     }
 
     // The slot of the first sector with this number and size on the track of a head.
@@ -130,6 +140,26 @@ impl TrackStore {
         write_slot(&mut self.memory[start..end], slot, size, buffer)
     }
 
+    // What stands first against a format, or that nothing does.
+    fn judge_format(&self, head: u8, count: usize, size: SizeCode) -> Formatting
+        ensures answer { λ r. ⌜ r ≡ format-asked (now (self .entry) .protected) (now (self .entry) .heads) (now (self .entry) .capacity) head count (bytes-of size) ⌝ }
+        ensures granted { λ r. ⌜ elim r [ NotReady ↦ Unit {0} | Protected ↦ Unit {0} | BadHead ↦ Unit {0} | BadCount ↦ Unit {0} | TooLong ↦ Unit {0} | Formatted ↦ (head < now (self .entry) .heads) × (1 ≤ count) × (count ≤ 64) × (count * bytes-of size ≤ now (self .entry) .capacity) ] ⌝ }
+    {
+        if self.protected {
+            return Formatting::Protected;
+        }
+        if head >= self.heads {
+            return Formatting::BadHead;
+        }
+        if count < 1 || count > 64 {
+            return Formatting::BadCount;
+        }
+        if count * size.bytes() > self.capacity as usize {
+            return Formatting::TooLong;
+        }
+        Formatting::Formatted
+    }
+
     // A format of a track under the head.
     pub fn format(
         &mut self,
@@ -142,22 +172,14 @@ impl TrackStore {
         ensures after { λ _. ⌜ store-model (now (self .exit)) ≡ after-format (store-model (now (self .entry))) head (now (ids .entry)) size check ⌝ }
         ensures kept { λ _. ⌜ (now (self .exit) .cylinders ≡ now (self .entry) .cylinders) × (now (self .exit) .heads ≡ now (self .entry) .heads) ⌝ }
     {
-        if self.protected {
-            return Formatting::Protected;
+        match self.judge_format(head, ids.len(), size) {
+            Formatting::Formatted => {
+                let start = self.start_of(head);
+                let end = start + HEADER + self.capacity as usize;
+                format_track(&mut self.memory[start..end], ids, size, check);
+                Formatting::Formatted
+            }
+            refusal => refusal,
         }
-        if head >= self.heads {
-            return Formatting::BadHead;
-        }
-        let count = ids.len();
-        if count < 1 || count > 64 {
-            return Formatting::BadCount;
-        }
-        if count * size.bytes() > self.capacity as usize {
-            return Formatting::TooLong;
-        }
-        let start = self.start_of(head);
-        let end = start + HEADER + self.capacity as usize;
-        format_track(&mut self.memory[start..end], ids, size, check);
-        Formatting::Formatted
     }
 }

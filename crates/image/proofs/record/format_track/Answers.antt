@@ -1,9 +1,8 @@
--- The three writes make the record of the format.
-use mathlib.Core.Path.{_≡_, refl, sym, ap, _∙_}
-use Prim.Native.Nat.{ℕ, _+_, _-_, _*_}
-use native.Mathlib.Omega.{arith}
+-- The four writes make the record of the format.
+use mathlib.Core.Path.{ap, _∙_}
+use Prim.Native.Nat.{ℕ}
 use borrow.Author.Needs.{needs}
-use lib.ListN.{length, replicate}
+use lib.ListN.{replicate}
 use Rattle.image.proofs.Formats.{format-is}
 use Rattle.image.proofs.record.format_track.Needs as need
 
@@ -12,8 +11,7 @@ returns c =
     record {
       after =
           format-is (c .args .ids .now) (c .args .size) (c .args .check) (c .args .track .now) (c .pre .0) (search needs) (c .pre .1)
-          (c .number .result) (c .bytes .result) _ _ _ (c .number .ensures) (c .bytes .ensures) _ refl
-          (c .write-pairs .ensures) (c .write-checks .ensures)
+          (c .bytes .result) _ _ _ _ (c .bytes .ensures) (c .write-head .ensures) (c .write-pairs .ensures) (c .write-checks .ensures)
           (c .fill .ensures .after (λ y e. e) ∙ ap (λ (n : ℕ). replicate n 0) (search needs));
       bytes = λ i. c .typed .track i .fits;
     }

@@ -6,8 +6,8 @@ use Rattle.image.proofs.record.marks_fit.Needs as need
 
 pub returns-then-mark : need.returns-then-mark
 returns-then-mark c =
-    let s = marks-more (c .args .track .now) (c .loop-slot .slot) (c .args .count) (omega arith) in grind (arith, tells)
+    let s = marks-more (c .args .track .now) (c .loop-place .place) (c .args .count) (omega arith) in grind (arith, tells)
 
-pub loop-slot-again : need.loop-slot-again
-loop-slot-again c =
-    let s = marks-more (c .args .track .now) (c .loop-slot .slot) (c .args .count) (omega arith) in grind (arith, tells)
+pub loop-place-again : need.loop-place-again
+loop-place-again c =
+    let s = marks-more (c .args .track .now) (c .loop-place .place) (c .args .count) (omega arith) in grind (arith, tells)

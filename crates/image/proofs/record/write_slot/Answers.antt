@@ -1,14 +1,8 @@
 -- The two copies write the sector of the slot.
-use mathlib.Core.Path.{_≡_, sym, ap, _∙_}
-use mathlib.Core.List.{List}
-use Prim.Native.Nat.{ℕ, _+_, _-_, _*_}
-use native.Mathlib.Omega.{arith}
+use mathlib.Core.Path.{sym, _∙_}
 use borrow.Author.Needs.{needs}
-use lib.ListN.{length, take, drop}
 use Rattle.std.proofs.shelf.Tests.{cond-false, ne-eqb}
-use Rattle.sector.specs.Sizes.{bytes-of}
-use Rattle.image.proofs.Windows.{length-part}
-use Rattle.image.proofs.Attempts.{write-is, bytes-fit, check-fits}
+use Rattle.image.proofs.Attempts.{write-is}
 use Rattle.image.proofs.record.write_slot.Needs as need
 
 pub returns : need.returns

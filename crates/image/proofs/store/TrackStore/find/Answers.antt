@@ -1,11 +1,10 @@
 -- The part that is searched is the track's record.
-use mathlib.Core.Path.{_≡_, sym, ap, _∙_}
+use mathlib.Core.Path.{sym, ap, _∙_}
 use mathlib.Core.List.{List}
 use native.Mathlib.Omega.{arith}
-use Rattle.std.proofs.shelf.Tests.{cond-false}
 use Rattle.drive.specs.Model.{Sector, slot-of}
 use Rattle.image.specs.Record.{track-in}
-use Rattle.image.proofs.Frames.{record-inside, track-inside, track-past-heads}
+use Rattle.image.proofs.Frames.{record-inside, track-inside}
 use Rattle.image.proofs.Cuts.{cut, found-in}
 use Rattle.image.proofs.store.TrackStore.find.Needs as need
 

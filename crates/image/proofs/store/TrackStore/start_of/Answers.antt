@@ -1,15 +1,21 @@
--- The start of a record fits a number of 64 bits by far.
-use mathlib.Core.Path.{refl}
-use Prim.Native.Nat.{_+_, _*_, _≤_}
+-- The record lies in the memory, so its start is no larger than a length is.
+use mathlib.Core.Path.{_≡_, ap}
+use Prim.Native.Nat.{ℕ, _+_, _*_}
 use native.Mathlib.Omega.{arith}
-use Rattle.std.proofs.shelf.Bits.{mul-le}
+use borrow.Author.Needs.{needs}
+use Rattle.image.specs.Image.{record-start}
+use Rattle.image.proofs.Calls as calls
 use Rattle.image.proofs.store.TrackStore.start_of.Needs as need
+
+pub mul-result : need.mul-result
+mul-result c =
+    let s = c .args .self .now in
+    let e : c .place-of .result * (386 + s .capacity) ≡ record-start (s .heads) (s .capacity) (s .cylinder) (c .args .head) =
+    ap (λ (p : ℕ). p * (386 + s .capacity)) (c .place-of .ensures) in
+    search (needs, calls.record-room s (c .args .head) (c .pre))
 
 pub returns : need.returns
 returns c =
     let s = c .args .self .now in
-    let p : s .cylinder * s .heads ≤ 65535 * 255 = mul-le (s .cylinder) (s .heads) 65535 255 (omega arith) (omega arith) in
-    record {
-      value = refl;
-      low = mul-le (s .cylinder * s .heads + c .args .head) (386 + s .capacity) 16777215 65922 (omega arith) (omega arith);
-    }
+    let e = ap (λ (p : ℕ). p * (386 + s .capacity)) (c .place-of .ensures) in
+    record { value = e; inside = omega (arith, e, calls.record-room s (c .args .head) (c .pre)) }

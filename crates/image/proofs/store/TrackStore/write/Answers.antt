@@ -6,7 +6,7 @@ use Rattle.drive.specs.Bounds.{Bytes}
 use Rattle.std.proofs.shelf.Lists.{length-take-le}
 use Rattle.image.specs.Image.{image-model}
 use Rattle.image.proofs.Tracks.{size-small}
-use Rattle.image.proofs.Cuts.{cut, stored, bytes-over}
+use Rattle.image.proofs.Cuts.{cut, stored}
 use Rattle.image.proofs.Calls as calls
 use Rattle.image.proofs.store.TrackStore.write.Needs as need
 
