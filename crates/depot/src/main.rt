@@ -1,40 +1,29 @@
-// The depot's program: reads a cue sheet from standard input, carries it through damaged sectors, and says what it did
-// and whether the firing script matches the sheet line by line.
-use cue_sheet::Found;
-use cue_sheet::Journey;
-use cue_sheet::JourneyErrorError;
-use cue_sheet::carry;
+// The depot's program: reads a cue sheet from standard input, keeps it on a Winchester image, lays faults over the drive,
+// reads the firing script back with retries, and says what it did and whether the script matches the sheet line by line.
+//
+// Three arguments, if given, are the image's cylinders, heads and track capacity.
+mod faults;
+mod fetching;
+mod fitting;
+mod keeping;
+
 use cue_sheet::count_lines;
 use cue_sheet::first_difference;
+use drive::Bay;
+use drive::BayDrive;
+use fault_table::FaultTable;
+use fault_table::FaultTableDrive;
+use fetching::fetch;
+use fitting::Measures;
+use fitting::measures;
+use image::WinchesterImage;
+use image::WinchesterImageDrive;
+use keeping::grid_of;
+use keeping::prepare;
+use keeping::store;
 use std::error::AnyError;
 use std::io;
 use std::io::Read;
-
-// Tells of one burst that was found and mended.
-fn print_burst(rt: &LibcRuntime, found: Found) -> io::Result<()> {
-    let sector = found.sector;
-    let first = found.burst.first;
-    let pattern = found.burst.pattern;
-    println!(
-        rt,
-        "sector {sector:>3}: burst at bit {first:>4}, pattern {pattern:05b}, mended"
-    )
-}
-
-// Tells what a sheet met on its way.
-fn print_journey(rt: &LibcRuntime, journey: &Journey) -> io::Result<()> {
-    let sectors = journey.sectors;
-    let damaged = journey.bursts.len();
-    println!(
-        rt,
-        "sectors: {sectors} of 512 bytes, each with an ECC check"
-    )?;
-    println!(rt, "damaged: {damaged}")?;
-    for found in &journey.bursts {
-        print_burst(rt, *found)?;
-    }
-    Ok(())
-}
 
 // Compares the script with the sheet, and tells the first line that differs.
 fn print_comparison(rt: &LibcRuntime, sheet: &[u8], script: &[u8]) -> io::Result<()> {
@@ -46,15 +35,37 @@ fn print_comparison(rt: &LibcRuntime, sheet: &[u8], script: &[u8]) -> io::Result
     }
 }
 
+// The image in its bay, or the refusal's words.
+fn fitted(rt: &LibcRuntime, m: Measures) -> Result<Bay<WinchesterImage>, AnyError> {
+    let length = m.cylinders as usize * m.heads as usize * (386 + m.capacity as usize);
+    let memory = vec![in rt.alloc(); 0u8; length]?;
+    let fitting = WinchesterImage::new(m.cylinders, m.heads, m.capacity, false, memory);
+    let refusal = fitting.refusal;
+    match refusal {
+        None => Ok(fitting.bay),
+        Some(why) => {
+            let number = why.number();
+            println!(rt, "image refused: {number}, {why:?}")?;
+            Err("the image was refused".into())
+        }
+    }
+}
+
 fn run(rt: &LibcRuntime) -> Result<(), AnyError> {
     let mut sheet = Vec::new(rt.alloc());
     rt.stdin().read_to_end(&mut sheet)?;
     let lines = count_lines(&sheet);
     let bytes = sheet.len();
     println!(rt, "sheet: {lines} lines, {bytes} bytes")?;
-    let journey = carry(rt.alloc(), &sheet)?;
-    print_journey(rt, &journey)?;
-    print_comparison(rt, &sheet, &journey.script)?;
+    let mut bay = fitted(rt, measures(rt)?)?;
+    let grid = grid_of(&bay);
+    prepare(rt, &mut bay, grid)?;
+    let records = store(rt, &mut bay, grid, &sheet)?;
+    let mut table = FaultTable::over(rt.alloc(), bay);
+    faults::lay(rt, &mut table, grid, records)?;
+    let mut script = fetch(rt, &mut table, grid, records)?;
+    script.truncate(bytes);
+    print_comparison(rt, &sheet, &script)?;
     Ok(())
 }
 

@@ -25,9 +25,9 @@ missed-after Found x y n = absurd (n refl)
 pub not-sought : (d : DriveModel) (c : ℕ) → (seek-answer d c ≡ Found → ⊥) → sought d c ≡ d
 not-sought d c n =
     ⊎-elim
-      (λ r. ⊎-elim
-        (λ l. absurd (n (cond-true (d .ready) (cond (ltb c (d .cylinders)) Found NoCylinder) NotReady r ∙ cond-true (ltb c (d .cylinders)) Found NoCylinder l)))
-        (λ l. cond-true (d .ready) (cond (ltb c (d .cylinders)) (at-cylinder d c) d) d r ∙ cond-false (ltb c (d .cylinders)) (at-cylinder d c) d l)
-        (cases-bool (ltb c (d .cylinders))))
-      (λ r. cond-false (d .ready) (cond (ltb c (d .cylinders)) (at-cylinder d c) d) d r)
-      (cases-bool (d .ready))
+    (λ r. ⊎-elim
+    (λ l. absurd (n (cond-true (d .ready) (cond (ltb c (d .cylinders)) Found NoCylinder) NotReady r ∙ cond-true (ltb c (d .cylinders)) Found NoCylinder l)))
+    (λ l. cond-true (d .ready) (cond (ltb c (d .cylinders)) (at-cylinder d c) d) d r ∙ cond-false (ltb c (d .cylinders)) (at-cylinder d c) d l)
+    (cases-bool (ltb c (d .cylinders))))
+    (λ r. cond-false (d .ready) (cond (ltb c (d .cylinders)) (at-cylinder d c) d) d r)
+    (cases-bool (d .ready))

@@ -31,6 +31,10 @@ impl Grid {
         let cylinder = (index / (heads * sectors)) as u16;
         let head = (index / sectors % heads) as u8;
         let number = (index % sectors) as u8;
-        Some(Place { cylinder, head, number })
+        Some(Place {
+            cylinder,
+            head,
+            number,
+        })
     }
 }

@@ -46,16 +46,28 @@ fn filled(bytes: &[u8; 512]) -> SectorBuffer
 {
     let mut room = [0u8; 1024];
     room[0..512].copy_from_slice(bytes);
-    SectorBuffer { bytes: room, check: check_bytes::<Ecc>(bytes) }
+    SectorBuffer {
+        bytes: room,
+        check: check_bytes::<Ecc>(bytes),
+    }
 }
 
 // Writes a record at its place, with its check bytes.
-pub fn write_record<D: Drive>(drive: &mut D, place: Place, bytes: &[u8; 512]) -> Result<Writing, Seeking>
+pub fn write_record<D: Drive>(
+    drive: &mut D,
+    place: Place,
+    bytes: &[u8; 512],
+) -> Result<Writing, Seeking>
     ensures answer { λ r. ⌜ r ≡ record-answer (D·Drive .meaning (now (drive .entry))) place ⌝ }
     ensures after { λ _. ⌜ D·Drive .meaning (now (drive .exit)) ≡ after-record (D·Drive .meaning (now (drive .entry))) place (now (bytes .entry)) ⌝ }
 {
     match seek(drive, place.cylinder) {
-        Seeking::Found => Ok(drive.write(place.head, place.number, SizeCode::Bytes512, &filled(bytes))),
+        Seeking::Found => Ok(drive.write(
+            place.head,
+            place.number,
+            SizeCode::Bytes512,
+            &filled(bytes),
+        )),
         missed => Err(missed),
     }
 }
@@ -116,14 +128,24 @@ fn read_here<D: Drive>(drive: &mut D, place: Place, buffer: &mut SectorBuffer) -
     for made in 0..TRIES {
         outcome = try_once(drive, place, buffer);
         if ends(outcome) {
-            return Recovery { outcome, attempts: made + 1 };
+            return Recovery {
+                outcome,
+                attempts: made + 1,
+            };
         }
     }
-    Recovery { outcome, attempts: TRIES }
+    Recovery {
+        outcome,
+        attempts: TRIES,
+    }
 }
 
 // Reads a record at its place into the buffer's first 512 bytes, with retries, and mends it where one burst is wrong.
-pub fn read_record<D: Drive>(drive: &mut D, place: Place, buffer: &mut SectorBuffer) -> Result<Recovery, Seeking>
+pub fn read_record<D: Drive>(
+    drive: &mut D,
+    place: Place,
+    buffer: &mut SectorBuffer,
+) -> Result<Recovery, Seeking>
     ensures recovery { λ r. ⌜ r ≡ recovery-answer (D·Drive .meaning (now (drive .entry))) place (now (buffer .entry)) ⌝ }
     ensures after { λ _. ⌜ D·Drive .meaning (now (drive .exit)) ≡ after-recovery (D·Drive .meaning (now (drive .entry))) place (now (buffer .entry)) ⌝ }
     ensures buffer { λ _. ⌜ now (buffer .exit) ≡ recovered-buffer (D·Drive .meaning (now (drive .entry))) place (now (buffer .entry)) ⌝ }

@@ -38,7 +38,7 @@ returns g c =
     record {
       answer = sym (cond-true (d .ready) (cond (ltb to (d .cylinders)) Found NoCylinder) NotReady ready ∙ cond-true (ltb to (d .cylinders)) Found NoCylinder (lt-ltb to (d .cylinders) inside));
       after =
-        l .inv ∙ ap (at-cylinder d) (closer-all (d .cylinder) to (l .-i) (omega arith) (omega arith))
-        ∙ sym (cond-true (d .ready) (cond (ltb to (d .cylinders)) (at-cylinder d to) d) d ready
+          l .inv ∙ ap (at-cylinder d) (closer-all (d .cylinder) to (l .-i) (omega arith) (omega arith))
+          ∙ sym (cond-true (d .ready) (cond (ltb to (d .cylinders)) (at-cylinder d to) d) d ready
           ∙ cond-true (ltb to (d .cylinders)) (at-cylinder d to) d (lt-ltb to (d .cylinders) inside));
     }

@@ -21,9 +21,9 @@ returns-in-Delivered c =
     let r = c .correct .result in
     record {
       outcome =
-        c .outcome-by .ensures ∙ ap by-correction (c .correct .ensures .answer ∙ judged-512 (take 512 xs) (b .check) front)
-        ∙ ap (λ a. outcome-of a b) (sym (c .in-Delivered .is));
+          c .outcome-by .ensures ∙ ap by-correction (c .correct .ensures .answer ∙ judged-512 (take 512 xs) (b .check) front)
+          ∙ ap (λ a. outcome-of a b) (sym (c .in-Delivered .is));
       buffer =
-        ap₂ (λ (s t : List ℕ). record { bytes = s ++ t; check = b .check }) (c .correct .ensures .after) (post-is 0 512 xs (omega arith))
-        ∙ mended-front r xs (b .check) ∙ ap (λ o. mended-in o b) (sym (c .outcome-by .ensures));
+          ap₂ (λ (s t : List ℕ). record { bytes = s ++ t; check = b .check }) (c .correct .ensures .after) (post-is 0 512 xs (omega arith))
+          ∙ mended-front r xs (b .check) ∙ ap (λ o. mended-in o b) (sym (c .outcome-by .ensures));
     }

@@ -23,7 +23,7 @@ loop-made-again g c =
     let one : 9 - l .made ≡ suc left = omega arith in
     l .inv ∙ ap (λ n. tried n (l .made) d (p .head) (p .number) (l .buffer) (l .outcome)) one
     ∙ goes-on left (l .made) d (p .head) (p .number) (l .buffer) (l .outcome) (t .result) (t .ensures .outcome) e (t .ensures .after) (t .last .buffer) (t .ensures .buffer)
-        (sym (c .ends .ensures) ∙ c .if-ends .left)
+    (sym (c .ends .ensures) ∙ c .if-ends .left)
 
 pub returns-then-ends : need.returns-then-ends
 returns-then-ends g c =
@@ -35,8 +35,8 @@ returns-then-ends g c =
     let left : ℕ = 9 - (l .made + 1) in
     let one : 9 - l .made ≡ suc left = omega arith in
     let all = l .inv ∙ ap (λ n. tried n (l .made) d (p .head) (p .number) (l .buffer) (l .outcome)) one
-          ∙ ends-here left (l .made) d (p .head) (p .number) (l .buffer) (l .outcome) (t .result) (t .ensures .outcome) e (t .ensures .after) (t .last .buffer) (t .ensures .buffer)
-              (sym (c .ends .ensures) ∙ c .if-ends .taken) in
+    ∙ ends-here left (l .made) d (p .head) (p .number) (l .buffer) (l .outcome) (t .result) (t .ensures .outcome) e (t .ensures .after) (t .last .buffer) (t .ensures .buffer)
+    (sym (c .ends .ensures) ∙ c .if-ends .taken) in
     record {
       recovery = sym (ap (λ (x : Tried). x .recovery) all);
       after = sym (ap (λ (x : Tried). x .drive) all);

@@ -20,11 +20,11 @@ returns-in-Found g c =
     let e : seek-answer d (p .cylinder) ≡ Found = sym (c .seek .ensures .answer) ∙ c .in-Found .is in
     record {
       answer =
-        ap Ok (c .write .ensures .answer ∙ ap (λ x. write-answer x (p .head) (p .number) Bytes512) (c .seek .ensures .after))
-        ∙ sym (ap (λ s. where-found s (write-answer at (p .head) (p .number) Bytes512)) e);
+          ap Ok (c .write .ensures .answer ∙ ap (λ x. write-answer x (p .head) (p .number) Bytes512) (c .seek .ensures .after))
+          ∙ sym (ap (λ s. where-found s (write-answer at (p .head) (p .number) Bytes512)) e);
       after =
-        c .write .ensures .after ∙ ap₂ (λ x b. after-write x (p .head) (p .number) Bytes512 b) (c .seek .ensures .after) (c .filled .ensures)
-        ∙ sym (ap (λ s. if-found s (after-write at (p .head) (p .number) Bytes512 (record-buffer (c .args .bytes .now))) d) e);
+          c .write .ensures .after ∙ ap₂ (λ x b. after-write x (p .head) (p .number) Bytes512 b) (c .seek .ensures .after) (c .filled .ensures)
+          ∙ sym (ap (λ s. if-found s (after-write at (p .head) (p .number) Bytes512 (record-buffer (c .args .bytes .now))) d) e);
     }
 
 pub returns-in-rest : need.returns-in-rest
@@ -39,6 +39,6 @@ returns-in-rest g c =
     record {
       answer = missed-answer (c .seek .result) (write-answer at (p .head) (p .number) Bytes512) missed ∙ ap (λ s. where-found s (write-answer at (p .head) (p .number) Bytes512)) is;
       after =
-        c .seek .ensures .after ∙ not-sought d (p .cylinder) other
-        ∙ missed-after (seek-answer d (p .cylinder)) (after-write at (p .head) (p .number) Bytes512 (record-buffer (c .args .bytes .now))) d other;
+          c .seek .ensures .after ∙ not-sought d (p .cylinder) other
+          ∙ missed-after (seek-answer d (p .cylinder)) (after-write at (p .head) (p .number) Bytes512 (record-buffer (c .args .bytes .now))) d other;
     }
