@@ -1,5 +1,5 @@
 -- The entries of a fault table: their kinds and ranges, and which one an attempt meets.
-use mathlib.Core.Bool.{Bool, cond, _&&_}
+use mathlib.Core.Bool.{Bool, true, false, cond, _&&_}
 use mathlib.Core.List.{List, [], _∷_}
 use Prim.Native.Nat.{ℕ, _-_, _%_}
 use lib.Dec.{eqb, ltb, leb}
@@ -55,3 +55,8 @@ worn e =
 abbrev pub spent : ℕ → ℕ → ℕ → List FaultEntry → List FaultEntry
 spent c h n [] = []
 spent c h n (e ∷ es) = cond (applies-at c h n e) (worn e ∷ es) (e ∷ spent c h n es)
+
+-- does what an attempt meets keep it from the drive below? No ID does
+abbrev pub hides-all : Option FaultEntry → Bool
+hides-all None = false
+hides-all (Some e) = elim (e .kind) [ NoId ↦ true | NoDataMark ↦ false | WrongBits ↦ false ]
