@@ -21,7 +21,7 @@ use drive::Writing;
 use sector::SizeCode;
 
 // The bytes of a record before the sectors' own.
-pub const HEADER: usize = 386;
+pub(crate) const HEADER: usize = 386;
 
 const BAD_MARK: u8 = 0x80;
 
@@ -70,7 +70,7 @@ fn first_slot(track: &[u8], count: usize, number: u8, code: u8) -> usize
 }
 
 // The slot of the first sector with this number and size.
-pub fn find_sector(track: &[u8], number: u8, size: SizeCode) -> Option<usize>
+pub(crate) fn find_sector(track: &[u8], number: u8, size: SizeCode) -> Option<usize>
     requires { ⌜ 386 ≤ length (now track) ⌝ }
     ensures slot { λ r. ⌜ r ≡ slot-of (track-in (now (track .entry))) number size ⌝ }
     ensures found { λ r. ⌜ BySome r (Unit {0}) (λ k. Slot (now (track .entry)) size k) ⌝ }
@@ -84,7 +84,7 @@ pub fn find_sector(track: &[u8], number: u8, size: SizeCode) -> Option<usize>
 }
 
 // Reads the sector in a slot, unless it is marked bad.
-pub fn read_slot(track: &[u8], slot: usize, size: SizeCode, buffer: &mut SectorBuffer) -> Reading
+pub(crate) fn read_slot(track: &[u8], slot: usize, size: SizeCode, buffer: &mut SectorBuffer) -> Reading
     requires { ⌜ Slot (now track) size slot ⌝ }
     ensures answer { λ r. ⌜ r ≡ cond (eqb (mark-at (now (track .entry)) slot) bad-mark) reading.BadBlock reading.Delivered ⌝ }
     ensures handed { λ _. ⌜ now (buffer .exit) ≡ cond (eqb (mark-at (now (track .entry)) slot) bad-mark) (now (buffer .entry)) (delivered intact (sector-at (now (track .entry)) slot) (now (buffer .entry))) ⌝ }
@@ -103,7 +103,7 @@ pub fn read_slot(track: &[u8], slot: usize, size: SizeCode, buffer: &mut SectorB
 }
 
 // Writes the sector in a slot, unless it is marked bad.
-pub fn write_slot(track: &mut [u8], slot: usize, size: SizeCode, buffer: &SectorBuffer) -> Writing
+pub(crate) fn write_slot(track: &mut [u8], slot: usize, size: SizeCode, buffer: &SectorBuffer) -> Writing
     requires { ⌜ Slot (now track) size slot ⌝ }
     ensures answer { λ r. ⌜ r ≡ cond (eqb (mark-at (now (track .entry)) slot) bad-mark) writing.BadBlock writing.Written ⌝ }
     ensures after { λ _. ⌜ now (track .exit) ≡ cond (eqb (mark-at (now (track .entry)) slot) bad-mark) (now (track .entry)) (with-sector slot (take (bytes-of size) (now (buffer .entry) .bytes)) (now (buffer .entry) .check) (now (track .entry))) ⌝ }
@@ -153,7 +153,7 @@ fn write_head(track: &mut [u8], count: usize, size: SizeCode)
 }
 
 // Makes the record one of sectors with these IDs, of this size, with zero bytes and these check bytes.
-pub fn format_track(track: &mut [u8], ids: &[SectorId], size: SizeCode, check: [u8; 4])
+pub(crate) fn format_track(track: &mut [u8], ids: &[SectorId], size: SizeCode, check: [u8; 4])
     requires { ⌜ length (now ids) ≤ 64 ⌝ ∗ ⌜ 386 + length (now ids) * bytes-of size ≤ length (now track) ⌝ }
     ensures after { λ _. ⌜ now (track .exit) ≡ with-format (now (ids .entry)) size check (now (track .entry)) ⌝ }
     ensures bytes { λ _. ⌜ Bytes (now (track .exit)) ⌝ }
