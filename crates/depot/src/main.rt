@@ -61,7 +61,7 @@ fn run(rt: &LibcRuntime) -> Result<(), AnyError> {
     let grid = grid_of(&bay);
     prepare(rt, &mut bay, grid)?;
     let records = store(rt, &mut bay, grid, &sheet)?;
-    let mut table = FaultTable::over(rt.alloc(), bay);
+    let mut table = FaultTable::over(bay);
     faults::lay(rt, &mut table, grid, records)?;
     let mut script = fetch(rt, &mut table, grid, records)?;
     script.truncate(bytes);

@@ -1,6 +1,6 @@
 -- What a write under the entries answers and leaves.
 use mathlib.Core.Path.{_≡_, refl, sym, ap, ap₂, _∙_}
-use mathlib.Core.Bool.{Bool, true, false, cond}
+use mathlib.Core.Bool.{Bool, true, false, cond, not}
 use mathlib.Core.List.{List}
 use Prim.Native.Nat.{ℕ}
 use Rattle.std.specs.declared.option.Option.{Option}
@@ -35,8 +35,8 @@ module _ (es : List FaultEntry) (d : DriveModel) (head number : ℕ) (size : Siz
     unfolding write-answer after-write
     refused on =
         record {
-          answer = sym (cond-true (d .ready) _ _ ready ∙ cond-true (d .protected) _ _ on);
-          after = sym (cond-true (d .ready) _ _ ready ∙ cond-true (d .protected) _ _ on);
+          answer = sym (cond-true (d .ready) _ _ ready ∙ cond-false (not (d .protected)) _ _ (ap not on));
+          after = sym (cond-true (d .ready) _ _ ready ∙ cond-false (not (d .protected)) _ _ (ap not on));
         }
 
     -- ---- an attempt
@@ -50,11 +50,11 @@ module _ (es : List FaultEntry) (d : DriveModel) (head number : ℕ) (size : Siz
       -- the two answers past both questions
       asked : (x : DriveModel) → x .ready ≡ true → x .protected ≡ false → write-answer x head number size ≡ attempted (shown x head number) (track-under x head) number size writing.NoId writing.BadBlock (λ _. writing.Written)
       unfolding write-answer
-      asked x on off = cond-true (x .ready) _ _ on ∙ cond-false (x .protected) _ _ off
+      asked x on off = cond-true (x .ready) _ _ on ∙ cond-true (not (x .protected)) _ _ (ap not off)
 
       made : (x : DriveModel) → x .ready ≡ true → x .protected ≡ false → after-write x head number size b ≡ attempted (shown x head number) (track-under x head) number size (attempted-at x head number) (attempted-at x head number) (written (attempted-at x head number) head size b)
       unfolding after-write
-      made x on off = cond-true (x .ready) _ _ on ∙ cond-false (x .protected) _ _ off
+      made x on off = cond-true (x .ready) _ _ on ∙ cond-true (not (x .protected)) _ _ (ap not off)
 
       -- what comes of an attempt that shows the same as under the entries
       as-shown : {A : Type 0} (s : Showing) → s ≡ shown (with-faults es d) head number → (missing marked : A) (good : ℕ → A) → attempted s (track-under d head) number size missing marked good ≡ attempted (shown (with-faults es d) head number) (track-under d head) number size missing marked good
