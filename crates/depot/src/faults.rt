@@ -8,6 +8,7 @@ use records::Grid;
 use records::Place;
 use sector::Burst;
 use std::error::AnyError;
+use std::io;
 
 // The fault of a record, by a fixed rule: none, a burst, no ID twice and then a burst, or no data mark eight times.
 fn fault_of(index: usize, place: Place) -> Option<FaultEntry> {
@@ -31,6 +32,27 @@ fn fault_of(index: usize, place: Place) -> Option<FaultEntry> {
     })
 }
 
+// Tells of one fault that was laid.
+fn print_fault(rt: &LibcRuntime, index: usize, entry: FaultEntry) -> io::Result<()> {
+    let attempts = entry.attempts;
+    let first = entry.burst.first;
+    let pattern = entry.burst.pattern;
+    match entry.kind {
+        FaultKind::NoId => println!(
+            rt,
+            "fault at record {index:>3}: no ID, attempts: {attempts}"
+        ),
+        FaultKind::NoDataMark => println!(
+            rt,
+            "fault at record {index:>3}: no data mark, attempts: {attempts}"
+        ),
+        FaultKind::WrongBits => println!(
+            rt,
+            "fault at record {index:>3}: burst at bit {first:>4}, pattern {pattern:05b}, attempts: {attempts}"
+        ),
+    }
+}
+
 // Lays the faults of the records over the drive, as far as the table has room.
 pub fn lay<D: Drive>(
     rt: &LibcRuntime,
@@ -47,7 +69,10 @@ pub fn lay<D: Drive>(
             continue;
         };
         match table.add(entry) {
-            Ok(()) => laid = laid.saturating_add(1),
+            Ok(()) => {
+                laid = laid.saturating_add(1);
+                print_fault(rt, index, entry)?;
+            }
             Err(AddRefusal::TableFull) => break,
             Err(_) => return Err("a fault was refused".into()),
         }

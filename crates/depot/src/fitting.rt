@@ -11,7 +11,7 @@ pub struct Measures {
 }
 
 // The measures that the arguments give, or 4 cylinders of 2 heads with room for 8 sectors of 512 bytes a track.
-pub fn measures(rt: &LibcRuntime) -> Result<Measures, AnyError> {
+pub fn asked_for(rt: &LibcRuntime) -> Result<Measures, AnyError> {
     let mut args = env::args(rt)?;
     let _program = args.next();
     let Some(cylinders) = args.next() else {

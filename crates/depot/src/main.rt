@@ -15,7 +15,8 @@ use fault_table::FaultTable;
 use fault_table::FaultTableDrive;
 use fetching::fetch;
 use fitting::Measures;
-use fitting::measures;
+use fitting::asked_for;
+use image::RefusalDebug;
 use image::WinchesterImage;
 use image::WinchesterImageDrive;
 use keeping::grid_of;
@@ -37,7 +38,8 @@ fn print_comparison(rt: &LibcRuntime, sheet: &[u8], script: &[u8]) -> io::Result
 
 // The image in its bay, or the refusal's words.
 fn fitted(rt: &LibcRuntime, m: Measures) -> Result<Bay<WinchesterImage>, AnyError> {
-    let length = m.cylinders as usize * m.heads as usize * (386 + m.capacity as usize);
+    let tracks = m.cylinders as usize * m.heads as usize;
+    let length = tracks.saturating_mul(386 + m.capacity.min(65_536) as usize);
     let memory = vec![in rt.alloc(); 0u8; length]?;
     let fitting = WinchesterImage::new(m.cylinders, m.heads, m.capacity, false, memory);
     let refusal = fitting.refusal;
@@ -57,7 +59,7 @@ fn run(rt: &LibcRuntime) -> Result<(), AnyError> {
     let lines = count_lines(&sheet);
     let bytes = sheet.len();
     println!(rt, "sheet: {lines} lines, {bytes} bytes")?;
-    let mut bay = fitted(rt, measures(rt)?)?;
+    let mut bay = fitted(rt, asked_for(rt)?)?;
     let grid = grid_of(&bay);
     prepare(rt, &mut bay, grid)?;
     let records = store(rt, &mut bay, grid, &sheet)?;

@@ -84,7 +84,12 @@ pub(crate) fn find_sector(track: &[u8], number: u8, size: SizeCode) -> Option<us
 }
 
 // Reads the sector in a slot, unless it is marked bad.
-pub(crate) fn read_slot(track: &[u8], slot: usize, size: SizeCode, buffer: &mut SectorBuffer) -> Reading
+pub(crate) fn read_slot(
+    track: &[u8],
+    slot: usize,
+    size: SizeCode,
+    buffer: &mut SectorBuffer,
+) -> Reading
     requires { ⌜ Slot (now track) size slot ⌝ }
     ensures answer { λ r. ⌜ r ≡ cond (eqb (mark-at (now (track .entry)) slot) bad-mark) reading.BadBlock reading.Delivered ⌝ }
     ensures handed { λ _. ⌜ now (buffer .exit) ≡ cond (eqb (mark-at (now (track .entry)) slot) bad-mark) (now (buffer .entry)) (delivered intact (sector-at (now (track .entry)) slot) (now (buffer .entry))) ⌝ }
@@ -103,7 +108,12 @@ pub(crate) fn read_slot(track: &[u8], slot: usize, size: SizeCode, buffer: &mut 
 }
 
 // Writes the sector in a slot, unless it is marked bad.
-pub(crate) fn write_slot(track: &mut [u8], slot: usize, size: SizeCode, buffer: &SectorBuffer) -> Writing
+pub(crate) fn write_slot(
+    track: &mut [u8],
+    slot: usize,
+    size: SizeCode,
+    buffer: &SectorBuffer,
+) -> Writing
     requires { ⌜ Slot (now track) size slot ⌝ }
     ensures answer { λ r. ⌜ r ≡ cond (eqb (mark-at (now (track .entry)) slot) bad-mark) writing.BadBlock writing.Written ⌝ }
     ensures after { λ _. ⌜ now (track .exit) ≡ cond (eqb (mark-at (now (track .entry)) slot) bad-mark) (now (track .entry)) (with-sector slot (take (bytes-of size) (now (buffer .entry) .bytes)) (now (buffer .entry) .check) (now (track .entry))) ⌝ }

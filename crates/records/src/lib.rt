@@ -8,6 +8,8 @@ mod places;
 mod sectors;
 
 pub use moves::Seeking;
+pub use moves::SeekingDebug;
+pub use moves::SeekingPartialEq;
 pub use moves::seek;
 pub use places::Grid;
 pub use places::Place;
