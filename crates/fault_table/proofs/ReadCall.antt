@@ -6,7 +6,6 @@ use Prim.Native.Nat.{ℕ}
 use Rattle.std.specs.declared.option.Option.{Option}
 use Rattle.std.specs.declared.option.Option.the-variants.{Some, None}
 use Rattle.std.specs.shelf.Lists.{All}
-use Rattle.std.proofs.shelf.Tests.{cond-true, cond-false}
 use Rattle.sector.specs.declared.size.SizeCode.{SizeCode}
 use Rattle.drive.specs.declared.buffer.SectorBuffer.{SectorBuffer}
 use Rattle.drive.specs.declared.answers.Reading.{Reading}
@@ -33,26 +32,21 @@ pub record Read-done (es es′ : List FaultEntry) (d d′ : DriveModel) (head nu
 module _ (es : List FaultEntry) (d : DriveModel) (head number : ℕ) (size : SizeCode) (b : SectorBuffer) where
   pub unready : d .ready ≡ false → Read-done es es d d head number size b b reading.NotReady
   unfolding read-answer handed-over after-read
-  unready off =
-      record {
-        answer = sym (cond-false (d .ready) _ _ off);
-        handed = sym (cond-false (d .ready) _ _ off);
-        after = sym (cond-false (d .ready) _ _ off);
-      }
+  unready off = record { answer = rw off; handed = rw off; after = rw off }
 
   module _ (ready : d .ready ≡ true) (at : ℕ) (es′ : List FaultEntry) (under : at ≡ d .cylinder) (spends : es′ ≡ spent at head number es) where
     -- a ready drive, by what the attempt shows
     answered : (x : DriveModel) → x .ready ≡ true → read-answer x head number size ≡ answer-of (track-under x head) number size (shown x head number)
     unfolding read-answer
-    answered x on = cond-true (x .ready) _ _ on
+    answered x on = rw on
 
     handed : (x : DriveModel) → x .ready ≡ true → handed-over x head number size b ≡ buffer-of (track-under x head) number size b (shown x head number)
     unfolding handed-over
-    handed x on = cond-true (x .ready) _ _ on
+    handed x on = rw on
 
     made : (x : DriveModel) → x .ready ≡ true → after-read x head number ≡ attempted-at x head number
     unfolding after-read
-    made x on = cond-true (x .ready) _ _ on
+    made x on = rw on
 
     spent-under : es′ ≡ spent (d .cylinder) head number es
     spent-under = spends ∙ ap (λ (c : ℕ). spent c head number es) under

@@ -1,10 +1,9 @@
 -- What a write under the entries answers and leaves.
 use mathlib.Core.Path.{_≡_, refl, sym, ap, ap₂, _∙_}
-use mathlib.Core.Bool.{Bool, true, false, cond, not}
+use mathlib.Core.Bool.{Bool, true, false, cond}
 use mathlib.Core.List.{List}
 use Prim.Native.Nat.{ℕ}
 use Rattle.std.specs.declared.option.Option.{Option}
-use Rattle.std.proofs.shelf.Tests.{cond-true, cond-false}
 use Rattle.sector.specs.declared.size.SizeCode.{SizeCode}
 use Rattle.drive.specs.declared.buffer.SectorBuffer.{SectorBuffer}
 use Rattle.drive.specs.declared.answers.Writing.{Writing}
@@ -27,17 +26,13 @@ module _ (es : List FaultEntry) (d : DriveModel) (head number : ℕ) (size : Siz
   -- ---- a drive that is not ready, or protected
   pub unready : d .ready ≡ false → Write-done es es d d head number size b writing.NotReady
   unfolding write-answer after-write
-  unready off = record { answer = sym (cond-false (d .ready) _ _ off); after = sym (cond-false (d .ready) _ _ off) }
+  unready off = record { answer = rw off; after = rw off }
 
   module _ (ready : d .ready ≡ true) where
     -- past the first question
     pub refused : d .protected ≡ true → Write-done es es d d head number size b writing.Protected
     unfolding write-answer after-write
-    refused on =
-        record {
-          answer = sym (cond-true (d .ready) _ _ ready ∙ cond-false (not (d .protected)) _ _ (ap not on));
-          after = sym (cond-true (d .ready) _ _ ready ∙ cond-false (not (d .protected)) _ _ (ap not on));
-        }
+    refused on = record { answer = rw (ready, on); after = rw (ready, on) }
 
     -- ---- an attempt
     module _ (free : d .protected ≡ false) (at : ℕ) (es′ : List FaultEntry) (under : at ≡ d .cylinder) (spends : es′ ≡ spent at head number es) where
@@ -50,11 +45,11 @@ module _ (es : List FaultEntry) (d : DriveModel) (head number : ℕ) (size : Siz
       -- the two answers past both questions
       asked : (x : DriveModel) → x .ready ≡ true → x .protected ≡ false → write-answer x head number size ≡ attempted (shown x head number) (track-under x head) number size writing.NoId writing.BadBlock (λ _. writing.Written)
       unfolding write-answer
-      asked x on off = cond-true (x .ready) _ _ on ∙ cond-true (not (x .protected)) _ _ (ap not off)
+      asked x on off = rw (on, off)
 
       made : (x : DriveModel) → x .ready ≡ true → x .protected ≡ false → after-write x head number size b ≡ attempted (shown x head number) (track-under x head) number size (attempted-at x head number) (attempted-at x head number) (written (attempted-at x head number) head size b)
       unfolding after-write
-      made x on off = cond-true (x .ready) _ _ on ∙ cond-true (not (x .protected)) _ _ (ap not off)
+      made x on off = rw (on, off)
 
       -- what comes of an attempt that shows the same as under the entries
       as-shown : {A : Type 0} (s : Showing) → s ≡ shown (with-faults es d) head number → (missing marked : A) (good : ℕ → A) → attempted s (track-under d head) number size missing marked good ≡ attempted (shown (with-faults es d) head number) (track-under d head) number size missing marked good

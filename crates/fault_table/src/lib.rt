@@ -10,6 +10,10 @@ mod table;
 
 pub use entry::FaultEntry;
 pub use entry::FaultKind;
+pub use entry::FaultKindDebug;
+pub use entry::FaultKindPartialEq;
 pub use refusal::AddRefusal;
+pub use refusal::AddRefusalDebug;
+pub use refusal::AddRefusalPartialEq;
 pub use table::FaultTable;
 pub use table::FaultTableDrive;
