@@ -2,6 +2,8 @@
 //
 // Promised here: the search answers the first burst whose amount is the difference, or none where none has it; no two
 // bursts of a sector have one amount; so a sector with at most one burst of wrong bits comes back as it was written.
+#![tactic(auto)]
+
 mod mending;
 mod search;
 mod theorems;

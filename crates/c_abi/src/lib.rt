@@ -1,6 +1,8 @@
 // Entry points for C programs, by which the codes are measured against plain C.
 //
 // Promised here: each is the library's own function, under a name that C can link.
+#![tactic(auto)]
+
 ghost use Rattle.std.specs.Prelude.{◌≡◌};
 ghost use Rattle.sector.specs.declared.size.SizeCode.TheVariants.{Bytes512};
 ghost use Rattle.check_code.specs.Code.{crc_code, ecc_code, check_of};

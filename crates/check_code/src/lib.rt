@@ -3,6 +3,8 @@
 // Promised here: both are the values that the shift register's definition gives, for every input; inverting bits changes
 // the difference by an amount that the bits and the length alone fix; a burst always shows; the check is the remainder
 // of a division of polynomials.
+#![tactic(auto)]
+
 mod code;
 mod codes;
 mod mode;

@@ -2,6 +2,8 @@
 //
 // Promised here: what every register read, register write, turn and master reset answers, and what it leaves of registers,
 // lines, buffer, phase and both drives, whatever state it meets.
+#![tactic(auto)]
+
 mod access;
 mod controller;
 mod turning;

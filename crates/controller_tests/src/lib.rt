@@ -1,4 +1,6 @@
 // The controller in use, as tables: scripts that are played on it. It has no code of its own.
+#![tactic(auto)]
+
 #[cfg(test)]
 mod bench;
 #[cfg(test)]

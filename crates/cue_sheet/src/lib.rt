@@ -3,6 +3,8 @@
 //
 // Promised here: the script is the sheet, byte for byte; the bursts found are the bursts that were laid; and the
 // comparison tells the first line that differs, if one does.
+#![tactic(auto)]
+
 mod damage;
 mod journey;
 mod lines;

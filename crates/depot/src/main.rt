@@ -2,6 +2,8 @@
 // reads the firing script back with retries, and says what it did and whether the script matches the sheet line by line.
 //
 // Three arguments, if given, are the image's cylinders, heads and track capacity.
+#![tactic(auto)]
+
 mod faults;
 mod fetching;
 mod fitting;

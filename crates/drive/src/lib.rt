@@ -2,6 +2,8 @@
 //
 // Promised here: what each call answers, what every buffer holds after it, and the drive's meaning after it, its sector
 // memory included, for every input.
+#![tactic(auto)]
+
 mod answers;
 mod bay;
 mod buffer;

@@ -1,4 +1,6 @@
 // Images in use: refusals at the edges of each range, tracks of every kind, and what attempts make of them.
+#![tactic(auto)]
+
 #[cfg(test)]
 mod tests {
     use drive::{Bay, Drive, Formatting, Reading, SectorBuffer, SectorId, Writing};

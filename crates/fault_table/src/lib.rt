@@ -2,6 +2,8 @@
 //
 // Promised here: which entries are refused, and why; what the drive under a table's entries answers, leaves in the buffers and
 // means after each call, which is the drive below with another outlook.
+#![tactic(auto)]
+
 mod attempts;
 mod entry;
 mod list;

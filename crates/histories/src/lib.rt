@@ -2,6 +2,8 @@
 //
 // Promised here: a run leaves the controller where its history, continued by these calls, leads, and hands back every
 // answer; BUSY goes off within as many turns as the makes of the drives allow; the worked examples.
+#![tactic(auto)]
+
 mod call;
 mod examples;
 mod finishing;

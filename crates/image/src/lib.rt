@@ -2,6 +2,8 @@
 //
 // Promised here: an image is refused for the first of its measures that is out of range, with its memory untouched; else it is a
 // drive, every call of which leaves the memory as the drive's meaning says, byte for byte.
+#![tactic(auto)]
+
 mod fitting;
 mod floppy;
 mod record;

@@ -3,6 +3,8 @@
 //
 // Promised here: the place of each record; that a seek leaves the head at its cylinder and changes nothing else; and what
 // a write and a read leave of the drive, by the drive's own meaning.
+#![tactic(auto)]
+
 mod moves;
 mod places;
 mod sectors;

@@ -3,6 +3,8 @@
 // through the same registers, under faults laid over the drive, and compared with the sheet line by line.
 //
 // Three arguments, if given, are the image's cylinders, heads and track capacity.
+#![tactic(auto)]
+
 mod console;
 mod faults;
 mod fetching;

@@ -1,9 +1,9 @@
 -- Inverting sets of bits: one bit, one set after another, equal sets, and what each bit becomes.
-use Rattle.std.proofs.Common.{◌≡◌, ℕ, zero, suc, ◌+◌, ◌-◌, ◌*◌, ◌/◌, ◌%◌, ◌^◌, ◌<◌, ◌≤◌, Bool, true, false, cond, not, eqb, ◌⊎◌, List, [], ◌∷◌, ◌++◌, length, get_or, set, sym, refl, ap, ◌∙◌, subst, ap₂, inl, inr, ⊎_elim, add-zero, mod-lt, arith, shr-shr}
-use lib.Bits.{bit_xor, xor_block, xor_assoc, xor_comm, xor_self, xor_zero_r, xor_shr, xor_mod}
+use Rattle.std.proofs.Common.{◌≡◌, ℕ, zero, suc, ◌+◌, ◌-◌, ◌*◌, ◌/◌, ◌%◌, ◌^◌, ◌<◌, Bool, true, false, eqb, List, [], ◌∷◌, length, get_or, set, sym, refl, ap, ◌∙◌, ap₂, ⊎_elim, arith, shr-shr}
+use lib.Bits.{bit_xor, xor_block, xor_assoc, xor_zero_r, xor_shr, xor_mod}
 use Rattle.std.proofs.lemmas.Bool.{cases_lt, cases_eq, eq-eqb, ne_eqb, eqb-true}
 use Rattle.sector.specs.Bits.{BitSet, digit_of, bit_at, differs, both_of, from_bit, mask, inverted}
-use Rattle.sector.proofs.Every.{every, every_at}
+use Rattle.sector.proofs.Every.{every_at}
 
 pub digit_lt : (b : Bool) → digit_of b < 2
 digit_lt true = omega arith

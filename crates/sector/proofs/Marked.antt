@@ -1,9 +1,9 @@
 -- The set that a first bit and a pattern name, one digit of the pattern after another.
-use Rattle.std.proofs.Common.{◌≡◌, ℕ, zero, suc, ◌+◌, ◌-◌, ◌*◌, ◌/◌, ◌%◌, ◌^◌, ◌<◌, ◌≤◌, Bool, true, false, ◌&&◌, eqb, leb, sym, refl, ap, ◌∙◌, ap₂, ⊎_elim, mod-lt, arith, pow_pos, pow_mono}
+use Rattle.std.proofs.Common.{◌≡◌, ℕ, ◌+◌, ◌-◌, ◌/◌, ◌%◌, ◌^◌, ◌<◌, ◌≤◌, Bool, true, false, ◌&&◌, eqb, leb, sym, refl, ap, ◌∙◌, ap₂, ⊎_elim, mod-lt, arith, pow_pos, pow_mono}
 use native.Mathlib.Nat.{div-eq_of_lt}
 use lib.Pow.{field, mod-mod-pow}
 use Rattle.std.proofs.lemmas.Bool.{cases_lt, cases_eq, eq-eqb, ne_eqb, le-leb, lt-leb}
-use Rattle.sector.specs.Bits.{BitSet, differs, marked}
+use Rattle.sector.specs.Bits.{differs, marked}
 
 -- ---- the digits of a number's lowest n
 pub digit_in : (p n j : ℕ) → j < n → p % 2 ^ n / 2 ^ j % 2 ≡ p / 2 ^ j % 2

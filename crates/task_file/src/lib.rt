@@ -3,6 +3,8 @@
 //
 // Promised here: what each register and command byte means, which commands are aborted, what every byte that moves does,
 // and what comes of each attempt, as one definition for every state.
+#![tactic(auto)]
+
 mod attempts;
 mod begin;
 mod command;

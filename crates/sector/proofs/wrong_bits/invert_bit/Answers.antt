@@ -1,5 +1,5 @@
 -- The byte that is written is the one with that bit inverted; where none is written, the part has not that bit.
-use Rattle.std.proofs.Common.{◌≡◌, ◌+◌, ◌-◌, ◌*◌, ◌<◌, eqb, length, sym, ◌∙◌, arith}
+use Rattle.std.proofs.Common.{◌+◌, ◌-◌, eqb, sym, ◌∙◌, arith}
 use Rattle.std.proofs.lemmas.Bool.{ne_eqb}
 use Rattle.sector.proofs.Inverted.{inverted_one, inverted_none, inverted_cong, eqb_moved}
 use Rattle.sector.proofs.wrong_bits.invert_bit.Goals as goal

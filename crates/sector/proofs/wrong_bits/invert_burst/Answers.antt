@@ -1,5 +1,5 @@
 -- Each turn inverts the bit of one digit of the pattern, where that digit is 1.
-use Rattle.std.proofs.Common.{◌≡◌, ◌+◌, ◌%◌, ◌^◌, eqb, sym, ap, ◌∙◌, arith, rules}
+use Rattle.std.proofs.Common.{◌+◌, ◌%◌, ◌^◌, eqb, sym, ap, ◌∙◌}
 use Rattle.sector.specs.Bits.{BitSet, inverted, marked, both_of}
 use Rattle.sector.proofs.Inverted.{inverted_none, inverted_both, inverted_cong}
 use Rattle.sector.proofs.Marked.{marked_none, marked_on, marked_off}
@@ -22,7 +22,7 @@ loop-k-preserved c =
     let bit : BitSet = λ i. eqb (start + i) (b.first + k) in
     elim c.if-burst-k-eq1.branch [
       | then-burst-k-eq1 w ↦
-          w.part-is ∙ w.invert-bit.ensures ∙ ap (inverted bit) c.loop-k.invariant ∙ inverted_both before bit bytes
+          w.part-is ∙ w.invert_bit.ensures ∙ ap (inverted bit) c.loop-k.invariant ∙ inverted_both before bit bytes
           ∙ inverted_cong (both_of before bit) after bytes (λ i l. marked_on b.first b.pattern k (start + i) w.if-burst-k-eq1.true)
       | else-burst-k-eq1 w ↦
           w.part-is ∙ c.loop-k.invariant
