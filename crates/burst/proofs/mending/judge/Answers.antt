@@ -15,9 +15,9 @@ returns c =
     let d : ℕ = c.difference-difference.result in
     record {
       answer =
-          ap by_burst c.in-Some-find-burst.ensures.first
+          ap by_burst c.in-Some-find_burst.ensures.first
           ∙ sym (cond-false (eqb d 0) Intact (by_burst (first_burst size d)) (ne_eqb d 0 c.if-difference-eq0.false))
           ∙ ap (judged size) c.difference-difference.ensures
-          ∙ ap (λ o. correction o bytes check) (sym c.in-Some.is ∙ c.from-length.ensures);
+          ∙ ap (λ o. correction o bytes check) (sym c.in-Some.is ∙ c.from_length.ensures);
       after = c.mend.ensures;
     }

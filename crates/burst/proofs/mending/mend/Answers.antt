@@ -8,4 +8,4 @@ use Rattle.burst.proofs.mending.mend.Goals as goal
 pub returns : goal.returns
 returns c =
     let b = c.args.burst in
-    c.invert-burst.ensures ∙ inverted_cong (from_bit 0 (set_of b)) (set_of b) c.args.bytes.now (λ i l. ap (set_of b) (zero-add i))
+    c.invert_burst.ensures ∙ inverted_cong (from_bit 0 (set_of b)) (set_of b) c.args.bytes.now (λ i l. ap (set_of b) (zero-add i))

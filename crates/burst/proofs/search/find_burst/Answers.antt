@@ -7,16 +7,16 @@ use Rattle.check_code.specs.Aligned.{steps}
 use Rattle.burst.specs.Search.{bits_of, first_burst, NoneFits, Fits}
 use Rattle.burst.proofs.Searching.{Passed, Before, burst_at, back_first, back_more, passed_none, before_none, passed_more, before_more, found, not_found, none_fits, fits}
 use Rattle.burst.proofs.search.find_burst.Goals as goal
-use Rattle.burst.proofs.search.find_burst.Goals.{else-register-mirrored-via-then-register-mirrored+else-ends-within, else-register-mirrored-via-else-register-mirrored}
+use Rattle.burst.proofs.search.find_burst.Goals.{else-register-mirrored-via-then-register-mirrored+else-ends_within, else-register-mirrored-via-else-register-mirrored}
 
 pub search-init : goal.search-init
 search-init c =
     let d = c.args.difference in
-    let r = c.taken-back-register.result in (
+    let r = c.taken_back-register.result in (
       refl,
-      c.taken-back-register.ensures.fits,
+      c.taken_back-register.ensures.fits,
       λ size e. (
-        back_first size d r c.taken-back-register.ensures.fits (ap (λ m. steps ecc_code (m - 5) r) e ∙ c.taken-back-register.ensures.is),
+        back_first size d r c.taken_back-register.ensures.fits (ap (λ m. steps ecc_code (m - 5) r) e ∙ c.taken_back-register.ensures.is),
         before_none size d,
       ),
     )
@@ -36,8 +36,8 @@ loop-half-preserved c =
           passed_more size d s.first s.register inside small (s.invariant.2 size e).0 l.half c.loop-half-test.true (l.invariant.1 size e)
           (λ same ends.
           elim c.else-register-mirrored.branch [
-            | else-register-mirrored-via-then-register-mirrored+else-ends-within w ↦
-                both_ways w.ends_within.result w.if-ends-within.false
+            | else-register-mirrored-via-then-register-mirrored+else-ends_within w ↦
+                both_ways w.ends_within.result w.if-ends_within.false
                 (w.ends_within.ensures
                 ∙ lt-ltb (2 * l.half + 1) (2 ^ (8 * c.bytes.result + 32 - s.first)) (subst (λ m. 2 * l.half + 1 < 2 ^ (m - s.first)) e ends))
             | else-register-mirrored-via-else-register-mirrored w ↦ w.if-register-mirrored.false (same ∙ sym c.mirrored.ensures)
@@ -72,8 +72,8 @@ returns-after-search c =
       only = subst (λ o. MatchOption o (NoneFits size d) (λ b. Fits size d b)) (sym s.invariant.0) (none_fits size d none);
     }
 
-pub returns-then-ends-within : goal.returns-then-ends-within
-returns-then-ends-within c =
+pub returns-then-ends_within : goal.returns-then-ends_within
+returns-then-ends_within c =
     let size = c.args.size in
     let d = c.args.difference in
     let s = c.search in
@@ -83,7 +83,7 @@ returns-then-ends-within c =
     let inside : s.first < bits_of size = omega (arith, c.search-test.true, e) in
     let ends : 2 * l.half + 1 < 2 ^ (bits_of size - s.first) =
     subst (λ m. 2 * l.half + 1 < 2 ^ (m - s.first)) (sym e)
-    (ltb-true (2 * l.half + 1) (2 ^ (8 * c.bytes.result + 32 - s.first)) (sym c.ends_within.ensures ∙ c.if-ends-within.true)) in
+    (ltb-true (2 * l.half + 1) (2 ^ (8 * c.bytes.result + 32 - s.first)) (sym c.ends_within.ensures ∙ c.if-ends_within.true)) in
     let is = found size d s.first s.register inside small (s.invariant.2 size e).0 l.half c.loop-half-test.true (l.invariant.1 size e) (s.invariant.2 size e).1
     (c.if-register-mirrored.true ∙ c.mirrored.ensures) ends in
     record { first = sym is; only = fits size d (burst_at size d s.first l.half) is }

@@ -15,6 +15,6 @@ returns g c =
     let k : ℕ = 32 - width code in
     let most = g.met.C.CheckCode.sound.most in
     let all : 32 ≡ width code + k = omega arith in
-    let held : c.from-be-bytes.result ≡ fold append 0 (bit_at check) (width code + k) =
-    c.from-be-bytes.ensures ∙ sym (four_held check (search rules) (search rules) (search rules) (search rules)) ∙ ap (fold append 0 (bit_at check)) all in
+    let held : c.from_be_bytes.result ≡ fold append 0 (bit_at check) (width code + k) =
+    c.from_be_bytes.ensures ∙ sym (four_held check (search rules) (search rules) (search rules) (search rules)) ∙ ap (fold append 0 (bit_at check)) all in
     ap₂ (λ x w. x / 2 ^ (32 - w)) held c.width.ensures ∙ digits_front (bit_at check) (bit_at_lt check) (width code) k

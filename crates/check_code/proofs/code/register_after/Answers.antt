@@ -9,8 +9,8 @@ use Rattle.check_code.specs.Bytes.{register_more}
 use Rattle.check_code.proofs.Table.{byte_step}
 use Rattle.check_code.proofs.code.register_after.Goals as goal
 
-pub overflow-cast-register : goal.overflow-cast-register
-overflow-cast-register g c = let small = c.loop-byte.invariant.0 in record { fits = omega arith }
+pub overflow_cast-register : goal.overflow_cast-register
+overflow_cast-register g c = let small = c.loop-byte.invariant.0 in record { fits = omega arith }
 
 pub loop-byte-preserved : goal.loop-byte-preserved
 loop-byte-preserved g c =
@@ -20,7 +20,7 @@ loop-byte-preserved g c =
     let b : ℕ = get_or bytes l.byte-index 0 in
     let small : l.register < 2 ^ 32 = l.invariant.0 in
     let byte : b < 256 = search rules in (
-      xor_lt 32 (l.register * 2 ^ 8 % 2 ^ 32) c.shifted.result (omega arith) c.shifted.type-inv,
+      xor_lt 32 (l.register * 2 ^ 8 % 2 ^ 32) c.shifted.result (omega arith) c.shifted.type_inv,
       ap (bit_xor (l.register * 2 ^ 8 % 2 ^ 32)) c.shifted.ensures
           ∙ byte_step code l.register b small byte
           ∙ ap (λ x. steps (aligned code) 8 (bit_xor x (b * 2 ^ 24))) l.invariant.1

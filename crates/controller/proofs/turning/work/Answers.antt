@@ -11,9 +11,9 @@ pub returns-in-Restore : goal.returns-in-Restore
 unfolding worked
 returns-in-Restore g c = search rules
 
-pub returns-then-not-find-cylinder : goal.returns-then-not-find-cylinder
+pub returns-then-not-find_cylinder : goal.returns-then-not-find_cylinder
 unfolding worked
-returns-then-not-find-cylinder g c = search rules
+returns-then-not-find_cylinder g c = search rules
 
 pub returns-in-Read : goal.returns-in-Read
 unfolding worked
@@ -27,6 +27,6 @@ pub returns-in-Format : goal.returns-in-Format
 unfolding worked
 returns-in-Format g c = search rules
 
-pub returns-in-default-job-2 : goal.returns-in-default-job-2
+pub returns-in_default-job-2 : goal.returns-in_default-job-2
 unfolding worked
-returns-in-default-job-2 g c = search rules
+returns-in_default-job-2 g c = search rules

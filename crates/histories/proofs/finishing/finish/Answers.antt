@@ -13,8 +13,8 @@ loop-made-init g c =
     let w = g.met.W.Drive.bounded c.args.controller.now.winchester in
     let f = g.met.F.Drive.bounded c.args.controller.now.floppy in
     let most : ℕ = c.max-most.result in
-    let mw : g.W.Drive.most.cylinders ≤ most = omega (arith, c.max-most.ensures, c.cylinder-limit.ensures, c.cylinder-limit-2.ensures) in
-    let mf : g.F.Drive.most.cylinders ≤ most = omega (arith, c.max-most.ensures, c.cylinder-limit.ensures, c.cylinder-limit-2.ensures) in
+    let mw : g.W.Drive.most.cylinders ≤ most = omega (arith, c.max-most.ensures, c.cylinder_limit.ensures, c.cylinder_limit-2.ensures) in
+    let mf : g.F.Drive.most.cylinders ≤ most = omega (arith, c.max-most.ensures, c.cylinder_limit.ensures, c.cylinder_limit-2.ensures) in
     let within : Within most b =
     record {
       winchester_stands = omega (arith, w.inside, w.few_cylinders);
@@ -26,17 +26,17 @@ loop-made-init g c =
 
 pub loop-made-preserved : goal.loop-made-preserved
 loop-made-preserved g c =
-    let busy = sym c.is_busy.ensures ∙ c.if-not-is-busy.false in (
+    let busy = sym c.is_busy.ensures ∙ c.if-not-is_busy.false in (
       turns_more _ _ _ c.loop-made.made c.loop-made.invariant.0 c.turn.ensures,
       still_more _ _ _ c.loop-made.made _ c.loop-made.invariant.1 busy c.turn.ensures,
     )
 
-pub returns-then-not-is-busy : goal.returns-then-not-is-busy
-returns-then-not-is-busy g c =
+pub returns-then-not-is_busy : goal.returns-then-not-is_busy
+returns-then-not-is_busy g c =
     record {
       made = c.loop-made.invariant.0;
-      few = omega (arith, c.loop-made.auto.made-end, c.max-most.ensures, c.cylinder-limit.ensures, c.cylinder-limit-2.ensures);
-      rests = λ reached. sym c.is_busy.ensures ∙ c.if-not-is-busy.true;
+      few = omega (arith, c.loop-made.auto.made-end, c.max-most.ensures, c.cylinder_limit.ensures, c.cylinder_limit-2.ensures);
+      rests = λ reached. sym c.is_busy.ensures ∙ c.if-not-is_busy.true;
     }
 
 pub returns : goal.returns
@@ -47,6 +47,6 @@ returns g c =
     let all : c.loop-made.made ≡ most = omega (arith, c.loop-made.auto.made-end, c.loop-made-test.false) in
     record {
       made = c.loop-made.invariant.0 ∙ ap (λ k. turns k b) all;
-      few = omega (arith, c.max-most.ensures, c.cylinder-limit.ensures, c.cylinder-limit-2.ensures);
+      few = omega (arith, c.max-most.ensures, c.cylinder_limit.ensures, c.cylinder_limit-2.ensures);
       rests = still_ends b e most (subst (λ k. Still b e k most) all c.loop-made.invariant.1);
     }

@@ -15,8 +15,8 @@ loop-call-preserved g c =
     let b = model_of g.W.Drive.meaning g.F.Drive.meaning c.args.controller.now in
     let i = c.loop-call in
     let here : i.call-index < length c.args.calls.now = c.loop-call-test.true in (
-      runs_more b c.args.calls.now i.call-index _ here _ _ i.invariant.0 c.make-call.ensures.after,
-      c.push-reserved.ensures.items ∙ answers_more b c.args.calls.now i.call-index _ here _ _ _ i.invariant.0 i.invariant.1 c.make-call.ensures.answer,
+      runs_more b c.args.calls.now i.call-index _ here _ _ i.invariant.0 c.make_call.ensures.after,
+      c.push_reserved.ensures.items ∙ answers_more b c.args.calls.now i.call-index _ here _ _ _ i.invariant.0 i.invariant.1 c.make_call.ensures.answer,
       search rules,
       search rules,
     )

@@ -9,17 +9,17 @@ pub returns-then-slot-count : goal.returns-then-slot-count
 returns-then-slot-count c =
     let r = c.args.track.now in
     let size = c.args.size in
-    let k = c.first-slot-slot.result in
+    let k = c.first_slot-slot.result in
     let e : formatted r ≡ true = grind arith in
     let h = shape_of r e in
     let one : Labelled r c.args.number (number_of size) k =
-    subst (λ (n : ℕ). Labelled r c.args.number n k) c.number.ensures (c.first-slot-slot.ensures.found c.if-slot-count.true) in
+    subst (λ (n : ℕ). Labelled r c.args.number n k) c.number.ensures (c.first_slot-slot.ensures.found c.if-slot-count.true) in
     let same : size_in r ≡ size = ap size_numbered one.1 ∙ numbered size in
     let room : 386 + count_in r * bytes_of (size_in r) ≤ length r = omega (arith, h.room) in
     record {
       slot =
           slot_first r c.args.number size k c.if-slot-count.true e
-          (λ j l label. c.first-slot-slot.ensures.before j l (subst (λ (n : ℕ). Labelled r c.args.number n j) (sym c.number.ensures) label)) one;
+          (λ j l label. c.first_slot-slot.ensures.before j l (subst (λ (n : ℕ). Labelled r c.args.number n j) (sym c.number.ensures) label)) one;
       found =
           record {
             whole = e;
@@ -37,6 +37,6 @@ returns-else-slot-count c =
     record {
       slot =
           slot_none r c.args.number c.args.size e
-          (λ j l label. c.first-slot-slot.ensures.before j (omega arith) (subst (λ (n : ℕ). Labelled r c.args.number n j) (sym c.number.ensures) label));
+          (λ j l label. c.first_slot-slot.ensures.before j (omega arith) (subst (λ (n : ℕ). Labelled r c.args.number n j) (sym c.number.ensures) label));
       found = tt;
     }

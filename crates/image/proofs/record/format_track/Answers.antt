@@ -8,7 +8,7 @@ returns c =
     record {
       after =
           format_is c.args.ids.now c.args.size c.args.check c.args.track.now c.requires.0 (search rules) c.requires.1
-          c.bytes.result _ _ _ _ c.bytes.ensures c.write-head.ensures c.write-pairs.ensures c.write-checks.ensures
+          c.bytes.result _ _ _ _ c.bytes.ensures c.write_head.ensures c.write_pairs.ensures c.write_checks.ensures
           (c.fill.ensures.after (λ y e. e) ∙ ap (λ (n : ℕ). replicate n 0) (search rules));
-      bytes = λ i. (c.type-inv.track i).fits;
+      bytes = λ i. (c.type_inv.track i).fits;
     }

@@ -20,8 +20,8 @@ returns c =
       answer = sym (cond-false _ _ _ good);
       handed =
           read_is r c.args.size c.args.slot c.requires c.args.buffer.now _ _
-          (c.copy-from-slice.ensures.after ∙ ap (λ (m : ℕ). take m (drop at r)) here ∙ ap (λ (m : ℕ). part (386 + c.args.slot * m) m r) z)
-          (c.copy-from-slice-2.ensures.after ∙ ap (λ (m : ℕ). take m (drop (130 + 4 * c.args.slot) r)) four)
+          (c.copy_from_slice.ensures.after ∙ ap (λ (m : ℕ). take m (drop at r)) here ∙ ap (λ (m : ℕ). part (386 + c.args.slot * m) m r) z)
+          (c.copy_from_slice-2.ensures.after ∙ ap (λ (m : ℕ). take m (drop (130 + 4 * c.args.slot) r)) four)
           _ left
           ∙ sym (cond-false _ _ _ good);
     }

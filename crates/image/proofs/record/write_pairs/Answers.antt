@@ -17,7 +17,7 @@ loop-slot-preserved c =
     ] in
     joined_over pair_of 2 (λ _. refl) c.args.ids.now c.loop-slot.slot none c.args.pairs.now c.loop-slot.pairs _
     (omega arith) (omega arith) c.loop-slot.invariant
-    (c.copy-from-slice.ensures.after ∙ ap (λ (m : ℕ). id.number ∷ m ∷ []) mark)
+    (c.copy_from_slice.ensures.after ∙ ap (λ (m : ℕ). id.number ∷ m ∷ []) mark)
 
 pub returns : goal.returns
 returns c =

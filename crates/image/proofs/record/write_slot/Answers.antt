@@ -9,10 +9,10 @@ returns c =
     let good = ne_eqb _ _ c.if-track-slot.false in
     record {
       answer = sym (cond-false _ _ _ good);
-      bytes = λ i. (c.type-inv.track i).fits;
+      bytes = λ i. (c.type_inv.track i).fits;
       full = (search rules, search rules);
       after =
           write_is c.args.track.now c.args.size c.args.slot c.requires c.args.buffer.now.bytes c.args.buffer.now.check _ _
-          c.bytes-length.result c.bytes-length.ensures c.copy-from-slice.ensures.after (search rules) c.copy-from-slice-2.ensures.after (search rules)
+          c.bytes-length.result c.bytes-length.ensures c.copy_from_slice.ensures.after (search rules) c.copy_from_slice-2.ensures.after (search rules)
           ∙ sym (cond-false _ _ _ good);
     }

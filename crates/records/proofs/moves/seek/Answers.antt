@@ -16,8 +16,8 @@ pub loop-i-preserved : goal.loop-i-preserved
 loop-i-preserved g c =
     let d : DriveModel = g.D.Drive.meaning c.args.drive.now in
     let to : ℕ = c.args.cylinder in
-    let ready : d.ready ≡ true = sym c.is-ready.ensures ∙ c.if-not-is-ready.false in
-    c.step-toward.ensures ∙ ap (λ x. nearer x to) c.loop-i.invariant
+    let ready : d.ready ≡ true = sym c.is_ready.ensures ∙ c.if-not-is_ready.false in
+    c.step_toward.ensures ∙ ap (λ x. nearer x to) c.loop-i.invariant
     ∙ nearer_more d ready d.cylinder to c.loop-i.-i (omega (arith, c.if-cylinder-cylinders.false, c.cylinders.ensures))
 
 pub returns : goal.returns
@@ -25,12 +25,12 @@ returns g c =
     let d : DriveModel = g.D.Drive.meaning c.args.drive.now in
     let to : ℕ = c.args.cylinder in
     let l = c.loop-i in
-    let ready : d.ready ≡ true = sym c.is-ready.ensures ∙ c.if-not-is-ready.false in
+    let ready : d.ready ≡ true = sym c.is_ready.ensures ∙ c.if-not-is_ready.false in
     let inside : to < d.cylinders = omega (arith, c.if-cylinder-cylinders.false, c.cylinders.ensures) in
     let bounds = g.met.D.Drive.bounded c.args.drive.now in
     let few : d.cylinders ≤ g.D.Drive.most.cylinders = bounds.few_cylinders in
     let here : d.cylinder < d.cylinders = bounds.inside in
-    let turns : l.-i ≡ g.D.Drive.most.cylinders = omega (arith, c.loop-i-test.false, c.cylinder-limit-i-end.ensures) in
+    let turns : l.-i ≡ g.D.Drive.most.cylinders = omega (arith, c.loop-i-test.false, c.cylinder_limit-i-end.ensures) in
     record {
       answer = sym (cond-true d.ready (cond (ltb to d.cylinders) Found NoCylinder) NotReady ready ∙ cond-true (ltb to d.cylinders) Found NoCylinder (lt-ltb to d.cylinders inside));
       after =

@@ -16,9 +16,9 @@ returns-in-Delivered c =
     let r = c.correct.result in
     record {
       outcome =
-          c.outcome-by.ensures ∙ ap by_correction (c.correct.ensures.answer ∙ judged_512 (take 512 xs) b.check front)
+          c.outcome_by.ensures ∙ ap by_correction (c.correct.ensures.answer ∙ judged_512 (take 512 xs) b.check front)
           ∙ ap (λ a. outcome_of a b) (sym c.in-Delivered.is);
       buffer =
           ap₂ (λ (s t : List ℕ). record { bytes = s ++ t; check = b.check }) c.correct.ensures.after (Post-is 0 512 xs (omega arith))
-          ∙ mended_front r xs b.check ∙ ap (λ o. mended_in o b) (sym c.outcome-by.ensures);
+          ∙ mended_front r xs b.check ∙ ap (λ o. mended_in o b) (sym c.outcome_by.ensures);
     }

@@ -13,7 +13,7 @@ pub loop-made-preserved : goal.loop-made-preserved
 loop-made-preserved g c =
     let l = c.loop-made in
     let p = c.args.place in
-    let t = c.try-once-outcome in
+    let t = c.try_once-outcome in
     let d : DriveModel = g.D.Drive.meaning l.drive in
     let e : DriveModel = g.D.Drive.meaning t.new.drive in
     let left : ℕ = 9 - (l.made + 1) in
@@ -26,7 +26,7 @@ pub returns-then-ends : goal.returns-then-ends
 returns-then-ends g c =
     let l = c.loop-made in
     let p = c.args.place in
-    let t = c.try-once-outcome in
+    let t = c.try_once-outcome in
     let d : DriveModel = g.D.Drive.meaning l.drive in
     let e : DriveModel = g.D.Drive.meaning t.new.drive in
     let left : ℕ = 9 - (l.made + 1) in

@@ -16,21 +16,21 @@ returns-in-Found g c =
     let t : Tried = nine_tries (sought d p.cylinder) p b in
     let e : seek_answer d p.cylinder ≡ Found = sym c.seek.ensures.answer ∙ c.in-Found.is in
     let at = c.seek.ensures.after in
-    let r = c.read-here.ensures in
+    let r = c.read_here.ensures in
     record {
       recovery = ap Ok (r.recovery ∙ ap (λ x. (nine_tries x p b).recovery) at) ∙ sym (ap (λ s. where_found s t.recovery) e);
       after = r.after ∙ ap (λ x. (nine_tries x p b).drive) at ∙ sym (ap (λ s. if_found s t.drive d) e);
       buffer = r.buffer ∙ ap (λ x. (nine_tries x p b).buffer) at ∙ sym (ap (λ s. if_found s t.buffer b) e);
     }
 
-pub returns-in-default : goal.returns-in-default
+pub returns-in_default : goal.returns-in_default
 unfolding recovery_answer after_recovery recovered_buffer
-returns-in-default g c =
+returns-in_default g c =
     let d : DriveModel = g.D.Drive.meaning c.args.drive.now in
     let p = c.args.place in
     let b = c.args.buffer.now in
     let t : Tried = nine_tries (sought d p.cylinder) p b in
-    let missed : c.seek.result ≡ Found → ⊥ = c.in-default.not-Found in
+    let missed : c.seek.result ≡ Found → ⊥ = c.in_default.not-Found in
     let is = c.seek.ensures.answer in
     let other : seek_answer d p.cylinder ≡ Found → ⊥ = λ e. missed (is ∙ e) in
     record {

@@ -25,13 +25,13 @@ returns-in-Found g c =
           ∙ sym (ap (λ s. if_found s (after_write at p.head p.number Bytes512 (record_buffer c.args.bytes.now)) d) e);
     }
 
-pub returns-in-default : goal.returns-in-default
+pub returns-in_default : goal.returns-in_default
 unfolding record_answer after_record
-returns-in-default g c =
+returns-in_default g c =
     let d : DriveModel = g.D.Drive.meaning c.args.drive.now in
     let p = c.args.place in
     let at : DriveModel = sought d p.cylinder in
-    let missed : c.seek.result ≡ Found → ⊥ = c.in-default.not-Found in
+    let missed : c.seek.result ≡ Found → ⊥ = c.in_default.not-Found in
     let is = c.seek.ensures.answer in
     let other : seek_answer d p.cylinder ≡ Found → ⊥ = λ e. missed (is ∙ e) in
     record {

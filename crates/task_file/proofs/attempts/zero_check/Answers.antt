@@ -12,7 +12,7 @@ pub returns : goal.returns
 returns c =
     let size = c.args.size in
     let zero : ℕ = 0 in
-    c.bytes-for.ensures
+    c.bytes_for.ensures
     ∙ ap (check_bytes_of (code_of c.args.mode))
     (ap (λ n. take n (replicate 1024 zero)) (sub-zero c.bytes-bytes.result ∙ c.bytes-bytes.ensures)
     ∙ take-replicate (bytes_of size) 1024 zero (bytes_most size))

@@ -10,17 +10,17 @@ returns-then-self-ge32 c =
     let a = added.full_answer f.entries f.count c.args.entry f.long f.few c.if-self-ge32.true in
     record { answer = a; after = added.refused f.entries f.count c.args.entry f.long f.few TableFull a }
 
-pub returns-then-not-is-in-range : goal.returns-then-not-is-in-range
-returns-then-not-is-in-range c =
+pub returns-then-not-is_in_range : goal.returns-then-not-is_in_range
+returns-then-not-is_in_range c =
     let f = c.args.self.now in
-    let out = sym c.if-not-is-in-range.ensures in
+    let out = sym c.if-not-is_in_range.ensures in
     let a = added.range_answer f.entries f.count c.args.entry f.long f.few c.if-self-ge32.false out in
     record { answer = a; after = added.refused f.entries f.count c.args.entry f.long f.few OutOfRange a }
 
 pub returns : goal.returns
 returns c =
     let f = c.args.self.now in
-    let fits = sym c.if-not-is-in-range.ensures in
+    let fits = sym c.if-not-is_in_range.ensures in
     record {
       answer = added.done_answer f.entries f.count c.args.entry f.long f.few c.if-self-ge32.false fits;
       after = added.taken f.entries f.count c.args.entry f.long f.few c.if-self-ge32.false fits;

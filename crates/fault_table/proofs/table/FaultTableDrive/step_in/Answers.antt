@@ -10,6 +10,6 @@ returns g c =
     let es = entries_of c.args.self.now.faults in
     let d = g.D.Drive.meaning c.args.self.now.drive in
     record {
-      answer = c.step-in.ensures.answer ∙ steps_as es d;
-      after = ap (with_faults es) c.step-in.ensures.after ∙ stepped_in_as es d;
+      answer = c.step_in.ensures.answer ∙ steps_as es d;
+      after = ap (with_faults es) c.step_in.ensures.after ∙ stepped_in_as es d;
     }

@@ -12,19 +12,19 @@ pub invariant-of-self : goal.invariant-of-self
 invariant-of-self c =
     let s = c.args.self.now in
     let below = c.in-Formatted.ensures.granted.0 in
-    let start = c.start-of-start.result in
-    let e = cut s.heads s.capacity s.cylinder c.args.head start s.memory.items c.deref-mut.result.now c.deref-mut.ensures.value c.start-of-start.ensures.value in
-    let long = c.format-track.auto.track ∙ ap length e ∙ calls.record_long s c.args.head below in
-    let items = stored s.heads s.capacity s.cylinder c.args.head start s.memory.items c.deref-mut.result.now c.deref-mut.ensures.value c.start-of-start.ensures.value s.memory refl c.format-track.new.track long (calls.record_room s c.args.head below) in (
+    let start = c.start_of-start.result in
+    let e = cut s.heads s.capacity s.cylinder c.args.head start s.memory.items c.deref_mut.result.now c.deref_mut.ensures.value c.start_of-start.ensures.value in
+    let long = c.format_track.auto.track ∙ ap length e ∙ calls.record_long s c.args.head below in
+    let items = stored s.heads s.capacity s.cylinder c.args.head start s.memory.items c.deref_mut.result.now c.deref_mut.ensures.value c.start_of-start.ensures.value s.memory refl c.format_track.new.track long (calls.record_room s c.args.head below) in (
       s.inside,
       (
         s.headed,
         (
           s.small,
           (
-            ap length items ∙ calls.still_whole s c.args.head below c.format-track.new.track long,
+            ap length items ∙ calls.still_whole s c.args.head below c.format_track.new.track long,
             (
-              subst Bytes (sym items) (calls.still_bytes s c.args.head below c.format-track.new.track long c.format-track.ensures.bytes),
+              subst Bytes (sym items) (calls.still_bytes s c.args.head below c.format_track.new.track long c.format_track.ensures.bytes),
               tt,
             ),
           ),
@@ -36,10 +36,10 @@ pub returns-in-Formatted : goal.returns-in-Formatted
 returns-in-Formatted c =
     let s = c.args.self.now in
     let g = c.in-Formatted.ensures.granted in
-    let start = c.start-of-start.result in
-    let e = cut s.heads s.capacity s.cylinder c.args.head start s.memory.items c.deref-mut.result.now c.deref-mut.ensures.value c.start-of-start.ensures.value in
-    let long = c.format-track.auto.track ∙ ap length e ∙ calls.record_long s c.args.head g.0 in
-    let items = stored s.heads s.capacity s.cylinder c.args.head start s.memory.items c.deref-mut.result.now c.deref-mut.ensures.value c.start-of-start.ensures.value s.memory refl c.format-track.new.track long (calls.record_room s c.args.head g.0) in
+    let start = c.start_of-start.result in
+    let e = cut s.heads s.capacity s.cylinder c.args.head start s.memory.items c.deref_mut.result.now c.deref_mut.ensures.value c.start_of-start.ensures.value in
+    let long = c.format_track.auto.track ∙ ap length e ∙ calls.record_long s c.args.head g.0 in
+    let items = stored s.heads s.capacity s.cylinder c.args.head start s.memory.items c.deref_mut.result.now c.deref_mut.ensures.value c.start_of-start.ensures.value s.memory refl c.format_track.new.track long (calls.record_room s c.args.head g.0) in
     let done = c.in-Formatted.ensures.answer ∙ asked s c.args.head c.args.ids.now c.args.size in
     let four : length c.args.check ≡ 4 = search rules in
     record {
@@ -47,16 +47,16 @@ returns-in-Formatted c =
       after =
           ap (image_model s.cylinders s.heads s.capacity s.protected s.cylinder) items
           ∙ after_done s c.args.head c.args.ids.now c.args.size c.args.check _ done g.0 g.1 g.2 g.3 four
-          (c.format-track.ensures.after ∙ ap (with_format c.args.ids.now c.args.size c.args.check) e);
+          (c.format_track.ensures.after ∙ ap (with_format c.args.ids.now c.args.size c.args.check) e);
       kept = (refl, refl);
     }
 
-pub returns-in-default : goal.returns-in-default
-returns-in-default c =
+pub returns-in_default : goal.returns-in_default
+returns-in_default c =
     let s = c.args.self.now in
-    let a = c.judge-format.ensures.answer ∙ asked s c.args.head c.args.ids.now c.args.size in
+    let a = c.judge_format.ensures.answer ∙ asked s c.args.head c.args.ids.now c.args.size in
     record {
       answer = a;
-      after = refused s c.args.head c.args.ids.now c.args.size c.args.check c.judge-format.result a c.in-default.not-Formatted;
+      after = refused s c.args.head c.args.ids.now c.args.size c.args.check c.judge_format.result a c.in_default.not-Formatted;
       kept = (refl, refl);
     }

@@ -4,15 +4,15 @@ use Rattle.image.specs.Image.{record_start}
 use Rattle.image.proofs.Calls as calls
 use Rattle.image.proofs.store.TrackStore.start_of.Goals as goal
 
-pub overflow-mul-result : goal.overflow-mul-result
-overflow-mul-result c =
+pub overflow_mul-result : goal.overflow_mul-result
+overflow_mul-result c =
     let s = c.args.self.now in
-    let e : c.place-of.result * (386 + s.capacity) ≡ record_start s.heads s.capacity s.cylinder c.args.head =
-    ap (λ (p : ℕ). p * (386 + s.capacity)) c.place-of.ensures in
+    let e : c.place_of.result * (386 + s.capacity) ≡ record_start s.heads s.capacity s.cylinder c.args.head =
+    ap (λ (p : ℕ). p * (386 + s.capacity)) c.place_of.ensures in
     search (rules, calls.record_room s c.args.head c.requires)
 
 pub returns : goal.returns
 returns c =
     let s = c.args.self.now in
-    let e = ap (λ (p : ℕ). p * (386 + s.capacity)) c.place-of.ensures in
+    let e = ap (λ (p : ℕ). p * (386 + s.capacity)) c.place_of.ensures in
     record { value = e; inside = omega (arith, e, calls.record_room s c.args.head c.requires) }

@@ -8,33 +8,33 @@ use Rattle.image.proofs.Cuts.{cut, stored}
 use Rattle.image.proofs.Calls as calls
 use Rattle.image.proofs.store.TrackStore.write.Goals as goal
 
-pub slice-bounds-write-slot-end : goal.slice-bounds-write-slot-end
-slice-bounds-write-slot-end c = omega (arith, calls.record_room c.args.self.now c.args.head c.in-Some.ensures.found.0)
+pub slice_bounds-write_slot-end : goal.slice_bounds-write_slot-end
+slice_bounds-write_slot-end c = omega (arith, calls.record_room c.args.self.now c.args.head c.in-Some.ensures.found.0)
 
-pub write-slot-requires : goal.write-slot-requires
-write-slot-requires c =
+pub write_slot-requires : goal.write_slot-requires
+write_slot-requires c =
     let s = c.args.self.now in
     let f = c.in-Some.ensures in
-    let e = cut s.heads s.capacity s.cylinder c.args.head c.start-of-start.result s.memory.items c.deref-mut.result.now c.deref-mut.ensures.value c.start-of-start.ensures.value in
+    let e = cut s.heads s.capacity s.cylinder c.args.head c.start_of-start.result s.memory.items c.deref_mut.result.now c.deref_mut.ensures.value c.start_of-start.ensures.value in
     calls.slot_cut s c.args.head c.args.number c.args.size c.in-Some.slot f.slot f.found.0 f.found.1 _ e
 
 pub invariant-of-self : goal.invariant-of-self
 invariant-of-self c =
     let s = c.args.self.now in
     let below = c.in-Some.ensures.found.0 in
-    let start = c.start-of-start.result in
-    let e = cut s.heads s.capacity s.cylinder c.args.head start s.memory.items c.deref-mut.result.now c.deref-mut.ensures.value c.start-of-start.ensures.value in
-    let long = c.write-slot.auto.track ∙ ap length e ∙ calls.record_long s c.args.head below in
-    let items = stored s.heads s.capacity s.cylinder c.args.head start s.memory.items c.deref-mut.result.now c.deref-mut.ensures.value c.start-of-start.ensures.value s.memory refl c.write-slot.new.track long (calls.record_room s c.args.head below) in (
+    let start = c.start_of-start.result in
+    let e = cut s.heads s.capacity s.cylinder c.args.head start s.memory.items c.deref_mut.result.now c.deref_mut.ensures.value c.start_of-start.ensures.value in
+    let long = c.write_slot.auto.track ∙ ap length e ∙ calls.record_long s c.args.head below in
+    let items = stored s.heads s.capacity s.cylinder c.args.head start s.memory.items c.deref_mut.result.now c.deref_mut.ensures.value c.start_of-start.ensures.value s.memory refl c.write_slot.new.track long (calls.record_room s c.args.head below) in (
       s.inside,
       (
         s.headed,
         (
           s.small,
           (
-            ap length items ∙ calls.still_whole s c.args.head below c.write-slot.new.track long,
+            ap length items ∙ calls.still_whole s c.args.head below c.write_slot.new.track long,
             (
-              subst Bytes (sym items) (calls.still_bytes s c.args.head below c.write-slot.new.track long c.write-slot.ensures.bytes),
+              subst Bytes (sym items) (calls.still_bytes s c.args.head below c.write_slot.new.track long c.write_slot.ensures.bytes),
               tt,
             ),
           ),
@@ -48,16 +48,16 @@ returns c =
     let free = c.if-self.false in
     let f = c.in-Some.ensures in
     let below = f.found.0 in
-    let start = c.start-of-start.result in
-    let e = cut s.heads s.capacity s.cylinder c.args.head start s.memory.items c.deref-mut.result.now c.deref-mut.ensures.value c.start-of-start.ensures.value in
-    let long = c.write-slot.auto.track ∙ ap length e ∙ calls.record_long s c.args.head below in
-    let items = stored s.heads s.capacity s.cylinder c.args.head start s.memory.items c.deref-mut.result.now c.deref-mut.ensures.value c.start-of-start.ensures.value s.memory refl c.write-slot.new.track long (calls.record_room s c.args.head below) in
-    let full = c.write-slot.ensures.full in
+    let start = c.start_of-start.result in
+    let e = cut s.heads s.capacity s.cylinder c.args.head start s.memory.items c.deref_mut.result.now c.deref_mut.ensures.value c.start_of-start.ensures.value in
+    let long = c.write_slot.auto.track ∙ ap length e ∙ calls.record_long s c.args.head below in
+    let items = stored s.heads s.capacity s.cylinder c.args.head start s.memory.items c.deref_mut.result.now c.deref_mut.ensures.value c.start_of-start.ensures.value s.memory refl c.write_slot.new.track long (calls.record_room s c.args.head below) in
+    let full = c.write_slot.ensures.full in
     record {
-      answer = calls.write_there s c.args.head c.args.number c.args.size c.in-Some.slot f.slot below f.found.1 _ e free _ c.write-slot.ensures.answer;
+      answer = calls.write_there s c.args.head c.args.number c.args.size c.in-Some.slot f.slot below f.found.1 _ e free _ c.write_slot.ensures.answer;
       after =
           ap (image_model s.cylinders s.heads s.capacity s.protected s.cylinder) items
-          ∙ calls.after_there s c.args.head c.args.number c.args.size c.in-Some.slot f.slot below f.found.1 _ e free c.args.buffer.now _ (length-take-le _ _ (omega (arith, full.0, size_small c.args.size))) full.1 c.write-slot.ensures.after;
+          ∙ calls.after_there s c.args.head c.args.number c.args.size c.in-Some.slot f.slot below f.found.1 _ e free c.args.buffer.now _ (length-take-le _ _ (omega (arith, full.0, size_small c.args.size))) full.1 c.write_slot.ensures.after;
       kept = (refl, refl);
     }
 
@@ -71,11 +71,11 @@ returns-then-self c =
       kept = (refl, refl);
     }
 
-pub returns-in-default : goal.returns-in-default
-returns-in-default c =
+pub returns-in_default : goal.returns-in_default
+returns-in_default c =
     let s = c.args.self.now in
     let free = c.if-self.false in
-    let none = c.in-default.ensures.slot in
+    let none = c.in_default.ensures.slot in
     record {
       answer = calls.write_missing s c.args.head c.args.number c.args.size free none;
       after = calls.after_missing s c.args.head c.args.number c.args.size free none c.args.buffer.now;

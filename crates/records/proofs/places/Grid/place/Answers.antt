@@ -7,8 +7,8 @@ use Rattle.records.proofs.places.Grid.place.Goals as goal
 some_record : (r c k : ℕ) → r < c * k → 0 < k
 some_record r c k h = ⊎_elim (λ l. l) (λ l. let e : k ≡ 0 = omega arith in absurd (omega (arith, ap (λ x. c * x) e ∙ mul-zero c))) (cases_lt 0 k)
 
-pub overflow-cast-cylinder : goal.overflow-cast-cylinder
-overflow-cast-cylinder c =
+pub overflow_cast-cylinder : goal.overflow_cast-cylinder
+overflow_cast-cylinder c =
     let a = c.args in
     let k : ℕ = a.self.heads * a.self.sectors in
     let h = c.if-index-self.false in

@@ -27,14 +27,14 @@ pub returns-in-9 : goal.returns-in-9
 unfolding command_of
 returns-in-9 c = search rules
 
-pub returns-in-default : goal.returns-in-default
+pub returns-in_default : goal.returns-in_default
 unfolding command_of
-returns-in-default c = search rules
+returns-in_default c = search rules
 
-pub returns-in-default·2 : goal.returns-in-default·2
+pub returns-in_default-2 : goal.returns-in_default-2
 unfolding command_of
-returns-in-default·2 c = search rules
+returns-in_default-2 c = search rules
 
-pub returns-in-default·3 : goal.returns-in-default·3
+pub returns-in_default-3 : goal.returns-in_default-3
 unfolding command_of
-returns-in-default·3 c = search rules
+returns-in_default-3 c = search rules

@@ -3,10 +3,10 @@ use Rattle.std.proofs.Common.{rules}
 use Rattle.task_file.specs.Moving.{put}
 use Rattle.task_file.proofs.state.State.put.Goals as goal
 
-pub returns-then-at-moved-length : goal.returns-then-at-moved-length
+pub returns-then-at-moved_length : goal.returns-then-at-moved_length
 unfolding put
-returns-then-at-moved-length c = search rules
+returns-then-at-moved_length c = search rules
 
-pub returns-else-at-moved-length : goal.returns-else-at-moved-length
+pub returns-else-at-moved_length : goal.returns-else-at-moved_length
 unfolding put
-returns-else-at-moved-length c = search rules
+returns-else-at-moved_length c = search rules

@@ -15,6 +15,6 @@ pub returns-else-hinders : goal.returns-else-hinders
 unfolding aborts
 returns-else-hinders c = search rules
 
-pub returns-in-default : goal.returns-in-default
+pub returns-in_default : goal.returns-in_default
 unfolding aborts
-returns-in-default c = search rules
+returns-in_default c = search rules
