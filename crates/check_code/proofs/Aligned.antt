@@ -1,5 +1,5 @@
 -- A register at the top of 32 bits holds what the code's own register holds, moved up.
-use Rattle.std.proofs.Common.{◌≡◌, ℕ, zero, suc, ◌+◌, ◌-◌, ◌*◌, ◌/◌, ◌%◌, ◌^◌, ◌<◌, ◌≤◌, sym, refl, ap, ◌∙◌, ap₂, add-zero, mul_assoc, mul_comm, arith, pow_pos, pow-add}
+use Rattle.std.proofs.Common.{◌≡◌, ℕ, zero, suc, ◌+◌, ◌-◌, ◌*◌, ◌/◌, ◌%◌, ◌^◌, ◌≤◌, sym, refl, ap, ◌∙◌, ap₂, add-zero, mul_assoc, mul_comm, arith, pow_pos, pow-add}
 use native.Mathlib.Nat.{mul-div-mul_right, mul-mod_left}
 use lib.Bits.{bit_xor}
 use lib.Pow.{mod-pow-add, shl-shr}

@@ -1,14 +1,14 @@
 -- The check is a remainder: the register's shifts are the steps of a division of polynomials.
-use Rattle.std.proofs.Common.{◌≡◌, ℕ, zero, suc, ◌+◌, ◌-◌, ◌*◌, ◌/◌, ◌%◌, ◌^◌, ◌<◌, ◌≤◌, Bool, true, false, cond, not, ◌&&◌, eqb, ltb, leb, List, length, sym, refl, ap, ◌∙◌, subst, ap₂, ⊎_elim, mod-lt, mod-eq_of_lt, mul_assoc, mul_comm, pow-suc, mul-zero, zero-mul, mul-one, div-one, arith, pow_pos, pow_mono, pow-add, shr-shr}
+use Rattle.std.proofs.Common.{◌≡◌, ℕ, zero, suc, ◌+◌, ◌-◌, ◌*◌, ◌/◌, ◌%◌, ◌^◌, ◌<◌, ◌≤◌, Bool, true, false, ◌&&◌, eqb, ltb, leb, length, sym, refl, ap, ◌∙◌, subst, ap₂, ⊎_elim, mod-lt, mod-eq_of_lt, mul_assoc, mul_comm, pow-suc, mul-zero, zero-mul, mul-one, div-one, arith, pow_pos, pow_mono, pow-add, shr-shr}
 use native.Mathlib.Nat.{div-eq_of_lt}
-use lib.Bits.{bit_xor, xor_assoc, xor_comm, xor_self, xor_zero_r, xor_shr, xor_mod}
+use lib.Bits.{bit_xor, xor_assoc, xor_self, xor_zero_r, xor_shr, xor_mod}
 use lib.Pow.{shl-shr}
-use Rattle.std.proofs.lemmas.Bool.{cases_lt, cases_Bool, eq-eqb, ne_eqb, le-leb, lt-leb, lt-ltb, le-ltb}
+use Rattle.std.proofs.lemmas.Bool.{cases_lt, le-leb, lt-leb, lt-ltb, le-ltb}
 use Rattle.sector.specs.Bits.{differs, bit_at}
-use Rattle.check_code.specs.Code.{Code, width, step, enter, append, fold, remainder_of}
+use Rattle.check_code.specs.Code.{Code, width, enter, append, fold, remainder_of}
 use Rattle.check_code.specs.Laws.{Sound}
-use Rattle.check_code.specs.Division.{Polynomial, DegreeBelow, plus, products, times, raised, of_number, of_bytes, Divided, CheckIsRemainder}
-use Rattle.check_code.specs.Fold.{xor_swap, shl_xor, dbl_xor, Bits, append_is, digits_lt}
+use Rattle.check_code.specs.Division.{Polynomial, DegreeBelow, plus, products, times, raised, of_number, CheckIsRemainder}
+use Rattle.check_code.specs.Fold.{xor_swap, shl_xor, dbl_xor, Bits, append_is}
 use Rattle.check_code.specs.Register.{enters_lt}
 use Rattle.check_code.specs.Bytes.{bit_at_lt}
 

@@ -1,9 +1,9 @@
 -- The table: its entries are the shifts of each byte, and by them a register takes a whole byte at once.
-use Rattle.std.proofs.Common.{◌≡◌, ℕ, zero, suc, ◌+◌, ◌-◌, ◌*◌, ◌/◌, ◌%◌, ◌^◌, ◌<◌, ◌≤◌, List, [], ◌∷◌, get_or, sym, refl, ap, ◌∙◌, ap₂, add-zero, add-suc, suc-add, zero-add, mul-div_cancel, arith, pow_pos}
+use Rattle.std.proofs.Common.{◌≡◌, ℕ, zero, suc, ◌+◌, ◌*◌, ◌/◌, ◌%◌, ◌^◌, ◌<◌, List, [], ◌∷◌, get_or, sym, ap, ◌∙◌, ap₂, add-zero, add-suc, suc-add, zero-add, mul-div_cancel, arith, pow_pos}
 use native.Mathlib.Nat.{mul-mod_left}
 use lib.Bits.{bit_xor, xor_shr, xor_mod, xor_shifted, xor_comm, xor_lt, xor_zero_r}
 use lib.Pow.{split}
-use Rattle.check_code.specs.Code.{Code, step}
+use Rattle.check_code.specs.Code.{Code}
 use Rattle.check_code.specs.Aligned.{steps, aligned}
 use Rattle.check_code.specs.Register.{steps_xor, steps_small}
 

@@ -1,14 +1,14 @@
 -- Bytes as streams of bits: one byte entered at once, and bytes one after another.
-use Rattle.std.specs.Prelude.{◌≡◌, ℕ, suc, ◌+◌, ◌-◌, ◌*◌, ◌/◌, ◌%◌, ◌^◌, ◌<◌, ◌≤◌, Bool, List, [], ◌∷◌, ◌++◌, length, ◌==◌, bit_xor, slice_index, slice_index_or, refl}
+use Rattle.std.specs.Prelude.{◌≡◌, ℕ, ◌+◌, ◌-◌, ◌*◌, ◌/◌, ◌%◌, ◌^◌, ◌<◌, ◌≤◌, Bool, List, [], ◌∷◌, ◌++◌, length, ◌==◌, bit_xor, slice_index, slice_index_or, refl}
 use Rattle.std.proofs.Common.{sym, ap, ap₂, ◌∙◌, subst, mul-add, mod-lt, arith, shl_lt}
 use Rattle.std.specs.Int.Bits.{xor_shifted}
 use Rattle.std.proofs.lemmas.List.{get_or_append_left, get_or-append-add}
 use Rattle.std.proofs.lemmas.Bool.{eqb-true}
 use Rattle.sector.specs.Bits.{bit_at}
-use Rattle.sector.proofs.Every.{every, every_at}
+use Rattle.sector.proofs.Every.{every_at}
 use Rattle.check_code.specs.Code.{Code, width, enter, append, fold}
 use Rattle.check_code.specs.Aligned.{steps}
-use Rattle.check_code.specs.Fold.{Bits, none, fold_apart, fold_cong, fold_add, append_linear, double_fold}
+use Rattle.check_code.specs.Fold.{Bits, fold_apart, fold_cong, fold_add, append_linear, double_fold}
 use Rattle.check_code.specs.Register.{steps_xor, steps_add, steps_small, enter_linear, enter_none, enter_below, below_digits}
 
 -- ---- bits of bytes

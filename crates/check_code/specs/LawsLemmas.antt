@@ -1,16 +1,16 @@
 -- The laws of every sound code: written whole, inverting, combining.
-use Rattle.std.specs.Prelude.{◌≡◌, ℕ, suc, ◌+◌, ◌-◌, ◌*◌, ◌/◌, ◌%◌, ◌^◌, ◌<◌, ◌≤◌, Bool, true, false, List, [], ◌∷◌, ◌++◌, length, bit_xor, slice_index, refl}
+use Rattle.std.specs.Prelude.{◌≡◌, ℕ, ◌+◌, ◌-◌, ◌*◌, ◌/◌, ◌%◌, ◌^◌, ◌<◌, List, ◌++◌, length, bit_xor, slice_index}
 use Rattle.std.proofs.Math.Path.{sym, ap₂}
-use Rattle.std.proofs.Common.{ap, ◌∙◌, subst, ⊎_elim, mod-lt, mod-eq_of_lt, arith, pow_pos, shr-shr, shl_lt}
+use Rattle.std.proofs.Common.{ap, ◌∙◌, subst, ⊎_elim, mod-lt, arith, pow_pos, shr-shr, shl_lt}
 use Rattle.std.specs.Int.Bits.{xor_zero_r, xor_self}
 use Rattle.std.proofs.lemmas.Nat.{shl-shr}
 use Rattle.std.proofs.Math.Pow.{split}
 use Rattle.std.proofs.lemmas.Bool.{cases_lt}
 use Rattle.sector.specs.Bits.{BitSet, digit_of, bit_at, both_of, from_bit, inverted}
 use Rattle.sector.proofs.Inverted.{digit_differs, length-inverted, bit_inverted}
-use Rattle.check_code.specs.Code.{Code, width, enter, append, fold, remainder_of, check_of, four_bytes, check_bytes_of, delivered_check, difference_of, digits_of, balance, amount_of}
-use Rattle.check_code.specs.Laws.{Sound, WrittenWhole, damaged_difference, Inverting, Combining}
-use Rattle.check_code.specs.Fold.{xor_swap, joint, none, fold_xor, fold_cong, append_linear, digits_front}
+use Rattle.check_code.specs.Code.{Code, width, enter, append, fold, check_of, four_bytes, check_bytes_of, delivered_check, difference_of, digits_of, balance, amount_of}
+use Rattle.check_code.specs.Laws.{Sound, WrittenWhole, Inverting, Combining}
+use Rattle.check_code.specs.Fold.{xor_swap, joint, fold_xor, fold_cong, append_linear, digits_front}
 use Rattle.check_code.specs.Register.{enter_linear, enters_lt}
 use Rattle.check_code.specs.Bytes.{bit_at_lt, bit_at_front, bit_at_back, digits_more}
 

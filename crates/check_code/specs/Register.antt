@@ -1,6 +1,6 @@
 -- The register: its shift is linear, keeps its width and loses nothing; bits that enter at the top or at the bottom.
 use Rattle.std.specs.Prelude.{◌≡◌, ℕ, zero, suc, ◌+◌, ◌-◌, ◌*◌, ◌/◌, ◌%◌, ◌^◌, ◌<◌, ◌≤◌, bit_xor, refl}
-use Rattle.std.proofs.Common.{sym, ap, ap₂, ◌∙◌, subst, ⊎_elim, mul_comm, mul-zero, zero-mul, mul-one, one-mul, zero-add, suc-add, mul_assoc, pow-suc, mod-lt, arith, pow_pos, pow_mono}
+use Rattle.std.proofs.Common.{sym, ap, ap₂, ◌∙◌, ⊎_elim, mul_comm, mul-zero, zero-mul, mul-one, one-mul, zero-add, suc-add, mul_assoc, pow-suc, mod-lt, arith, pow_pos, pow_mono}
 use Rattle.std.proofs.Math.Nat.{div-eq_of_lt}
 use Rattle.std.proofs.lemmas.Nat.{xor_block, xor_lt, xor_shr, xor_mod}
 use Rattle.std.specs.Int.Bits.{xor_zero_r, xor_self}
@@ -9,7 +9,7 @@ use Rattle.std.proofs.lemmas.Bool.{cases_lt}
 use Rattle.check_code.specs.Code.{Code, width, step, enter, append, fold, balance}
 use Rattle.check_code.specs.Laws.{Sound}
 use Rattle.check_code.specs.Aligned.{steps}
-use Rattle.check_code.specs.Fold.{xor_swap, shl_xor, dbl_xor, xor_none, Bits, none, Linear, joint, fold_xor, fold_cong, fold_add, digits_lt}
+use Rattle.check_code.specs.Fold.{xor_swap, shl_xor, dbl_xor, xor_none, Bits, none, Linear, fold_xor, fold_add, digits_lt}
 
 -- a digit times a number, added
 bit_mul : (g x y : ℕ) → x < 2 → y < 2 → g * bit_xor x y ≡ bit_xor (g * x) (g * y)

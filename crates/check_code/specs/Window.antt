@@ -1,10 +1,10 @@
 -- A span of wrong bits by its first one: its amount is its pattern, shifted to the end of the sector; and a burst always shows.
-use Rattle.std.specs.Prelude.{◌≡◌, ℕ, zero, suc, ◌+◌, ◌-◌, ◌*◌, ◌/◌, ◌%◌, ◌^◌, ◌<◌, ◌≤◌, Bool, true, false, cond, ◌⊎◌, List, length, ◌≢◌, bit_xor, nat_lt, refl}
-use Rattle.std.proofs.Common.{sym, ap, ap₂, ◌∙◌, subst, inl, inr, ⊎_elim, add-zero, pow-suc, arith, pow_mono, pow_pos}
+use Rattle.std.specs.Prelude.{◌≡◌, ℕ, zero, suc, ◌+◌, ◌-◌, ◌*◌, ◌^◌, ◌<◌, ◌≤◌, Bool, true, false, cond, ◌⊎◌, length, ◌≢◌, bit_xor, nat_lt, refl}
+use Rattle.std.proofs.Common.{sym, ap, ◌∙◌, subst, inl, inr, ⊎_elim, add-zero, pow-suc, arith, pow_mono, pow_pos}
 use Rattle.std.proofs.lemmas.Bool.{cases_lt, cases_Bool, both_ways, lt-ltb, le-ltb}
 use Rattle.sector.specs.Bits.{BitSet, digit_of, Span, OneBurst}
 use Rattle.sector.proofs.Inverted.{digit_lt}
-use Rattle.check_code.specs.Code.{Code, width, append, fold, check_bytes_of, difference_of, digits_of, amount_of}
+use Rattle.check_code.specs.Code.{Code, width, append, fold, check_bytes_of, digits_of, amount_of}
 use Rattle.check_code.specs.Laws.{Sound, BurstShows}
 use Rattle.check_code.specs.Aligned.{steps}
 use Rattle.check_code.specs.Fold.{Bits, none, window, fold_cong, fold_add, append_is, digits_lt}

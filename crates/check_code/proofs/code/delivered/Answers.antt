@@ -1,8 +1,7 @@
 -- What the four check bytes hold, moved down, is the delivered check.
-use Rattle.std.proofs.Common.{◌≡◌, ℕ, ◌+◌, ◌-◌, ◌*◌, ◌/◌, ◌^◌, ◌<◌, get_or, sym, ap, ◌∙◌, ap₂, arith, rules}
-use lib.Bits.{bit_xor}
+use Rattle.std.proofs.Common.{◌≡◌, ℕ, ◌+◌, ◌-◌, ◌/◌, ◌^◌, sym, ap, ◌∙◌, ap₂, arith, rules}
 use Rattle.sector.specs.Bits.{bit_at}
-use Rattle.check_code.specs.Code.{Code, width, append, fold, remainder_of, check_of}
+use Rattle.check_code.specs.Code.{Code, width, append, fold}
 use Rattle.check_code.specs.Fold.{digits_front}
 use Rattle.check_code.specs.Bytes.{bit_at_lt}
 use Rattle.check_code.specs.LawsLemmas.{four_held}

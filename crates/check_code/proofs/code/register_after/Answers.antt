@@ -1,5 +1,5 @@
 -- One turn takes one byte: its entry and the rest of the register, moved up.
-use Rattle.std.proofs.Common.{◌≡◌, ℕ, ◌-◌, ◌*◌, ◌/◌, ◌%◌, ◌^◌, ◌<◌, length, get_or, sym, ap, ◌∙◌, ap₂, arith, lit≤, rules}
+use Rattle.std.proofs.Common.{◌≡◌, ℕ, ◌-◌, ◌*◌, ◌%◌, ◌^◌, ◌<◌, length, get_or, sym, ap, ◌∙◌, ap₂, arith, lit≤, rules}
 use lib.Bits.{bit_xor, xor_lt}
 use Rattle.sector.specs.Bits.{bit_at}
 use Rattle.check_code.specs.Code.{Code, enter, fold}

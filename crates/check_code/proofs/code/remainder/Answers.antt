@@ -1,5 +1,5 @@
 -- What was moved up to the top of 32 bits is moved down again.
-use Rattle.std.proofs.Common.{◌≡◌, ◌-◌, ◌/◌, ◌^◌, ap, ◌∙◌, ap₂}
+use Rattle.std.proofs.Common.{◌-◌, ◌/◌, ◌^◌, ◌∙◌, ap₂}
 use lib.Pow.{shl-shr}
 use Rattle.check_code.specs.Code.{Code, width, remainder_of}
 use Rattle.check_code.proofs.code.remainder.Goals as goal
