@@ -8,29 +8,21 @@ use Rattle.image.proofs.Calls as calls
 use Rattle.image.proofs.FormatCall.{asked, refused, after_done}
 use Rattle.image.proofs.store.TrackStore.format.Goals as goal
 
-pub invariant-of-self : goal.invariant-of-self
-invariant-of-self c =
+pub invariant_of-self : goal.invariant_of-self
+invariant_of-self c =
     let s = c.args.self.now in
     let below = c.in-Formatted.ensures.granted.0 in
     let start = c.start_of-start.result in
     let e = cut s.heads s.capacity s.cylinder c.args.head start s.memory.items c.deref_mut.result.now c.deref_mut.ensures.value c.start_of-start.ensures.value in
     let long = c.format_track.auto.track ∙ ap length e ∙ calls.record_long s c.args.head below in
-    let items = stored s.heads s.capacity s.cylinder c.args.head start s.memory.items c.deref_mut.result.now c.deref_mut.ensures.value c.start_of-start.ensures.value s.memory refl c.format_track.new.track long (calls.record_room s c.args.head below) in (
-      s.inside,
-      (
-        s.headed,
-        (
-          s.small,
-          (
-            ap length items ∙ calls.still_whole s c.args.head below c.format_track.new.track long,
-            (
-              subst Bytes (sym items) (calls.still_bytes s c.args.head below c.format_track.new.track long c.format_track.ensures.bytes),
-              tt,
-            ),
-          ),
-        ),
-      ),
-    )
+    let items = stored s.heads s.capacity s.cylinder c.args.head start s.memory.items c.deref_mut.result.now c.deref_mut.ensures.value c.start_of-start.ensures.value s.memory refl c.format_track.new.track long (calls.record_room s c.args.head below) in
+    record {
+      inside = s.inside;
+      headed = s.headed;
+      small = s.small;
+      whole = ap length items ∙ calls.still_whole s c.args.head below c.format_track.new.track long;
+      bytes = subst Bytes (sym items) (calls.still_bytes s c.args.head below c.format_track.new.track long c.format_track.ensures.bytes);
+    }
 
 pub returns-in-Formatted : goal.returns-in-Formatted
 returns-in-Formatted c =

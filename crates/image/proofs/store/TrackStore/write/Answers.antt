@@ -18,29 +18,21 @@ write_slot-requires c =
     let e = cut s.heads s.capacity s.cylinder c.args.head c.start_of-start.result s.memory.items c.deref_mut.result.now c.deref_mut.ensures.value c.start_of-start.ensures.value in
     calls.slot_cut s c.args.head c.args.number c.args.size c.in-Some.slot f.slot f.found.0 f.found.1 _ e
 
-pub invariant-of-self : goal.invariant-of-self
-invariant-of-self c =
+pub invariant_of-self : goal.invariant_of-self
+invariant_of-self c =
     let s = c.args.self.now in
     let below = c.in-Some.ensures.found.0 in
     let start = c.start_of-start.result in
     let e = cut s.heads s.capacity s.cylinder c.args.head start s.memory.items c.deref_mut.result.now c.deref_mut.ensures.value c.start_of-start.ensures.value in
     let long = c.write_slot.auto.track ∙ ap length e ∙ calls.record_long s c.args.head below in
-    let items = stored s.heads s.capacity s.cylinder c.args.head start s.memory.items c.deref_mut.result.now c.deref_mut.ensures.value c.start_of-start.ensures.value s.memory refl c.write_slot.new.track long (calls.record_room s c.args.head below) in (
-      s.inside,
-      (
-        s.headed,
-        (
-          s.small,
-          (
-            ap length items ∙ calls.still_whole s c.args.head below c.write_slot.new.track long,
-            (
-              subst Bytes (sym items) (calls.still_bytes s c.args.head below c.write_slot.new.track long c.write_slot.ensures.bytes),
-              tt,
-            ),
-          ),
-        ),
-      ),
-    )
+    let items = stored s.heads s.capacity s.cylinder c.args.head start s.memory.items c.deref_mut.result.now c.deref_mut.ensures.value c.start_of-start.ensures.value s.memory refl c.write_slot.new.track long (calls.record_room s c.args.head below) in
+    record {
+      inside = s.inside;
+      headed = s.headed;
+      small = s.small;
+      whole = ap length items ∙ calls.still_whole s c.args.head below c.write_slot.new.track long;
+      bytes = subst Bytes (sym items) (calls.still_bytes s c.args.head below c.write_slot.new.track long c.write_slot.ensures.bytes);
+    }
 
 pub returns : goal.returns
 returns c =
