@@ -1,5 +1,5 @@
 -- What an attempt under the entries shows and uses up.
-use Rattle.std.proofs.Common.{◌≡◌, ℕ, ◌+◌, true, false, List, Some, None, Option, sym, refl, ap, ◌∙◌, subst, arith}
+use Rattle.std.proofs.Common.{◌≡◌, ℕ, ◌+◌, true, false, List, Some, None, Option, sym, refl, ap, subst, arith}
 use Rattle.std.proofs.lemmas.Bool.{cond-true, cond-false}
 use Rattle.sector.specs.Bits.{BitSet}
 use Rattle.sector.specs.declared.size.SizeCode.{SizeCode}

@@ -1,8 +1,8 @@
 -- An attempt uses up one entry of the combined outlook, at its own place only.
-use Rattle.std.proofs.Common.{◌≡◌, ℕ, ◌+◌, ◌-◌, ◌<◌, ◌≤◌, Bool, true, false, cond, ◌&&◌, eqb, ltb, ◌⊎◌, List, [], ◌∷◌, Some, None, Option, sym, refl, ap, ◌∙◌, subst, ap₂, ⊎_elim, add-zero, arith}
+use Rattle.std.proofs.Common.{◌≡◌, ℕ, ◌+◌, ◌-◌, ◌<◌, Bool, true, false, cond, ◌&&◌, eqb, ltb, List, [], ◌∷◌, Some, None, Option, sym, refl, ap, ◌∙◌, subst, ap₂, ⊎_elim, add-zero, arith}
 use mathlib.Core.Path.{fun_ext}
 use Rattle.std.proofs.lemmas.Bool.Decides.{nat_tests}
-use Rattle.std.proofs.lemmas.Bool.{cases_Bool, and_from, and_parts, and_cases, eqb-true, ltb-true, ltb-false, le-ltb, cond-true, cond-false}
+use Rattle.std.proofs.lemmas.Bool.{cases_Bool, and_parts, and_cases, eqb-true, ltb-true, ltb-false, le-ltb, cond-true, cond-false}
 use Rattle.sector.specs.Bits.{BitSet}
 use Rattle.drive.specs.Model.{Showing, Outlook, used_up}
 use Rattle.fault_table.specs.declared.entry.FaultKind.{FaultKind}

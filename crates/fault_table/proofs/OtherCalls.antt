@@ -1,9 +1,7 @@
 -- Steps and formats are those of the drive below.
-use Rattle.std.proofs.Common.{◌≡◌, ℕ, ◌+◌, ◌-◌, Bool, true, false, cond, ◌&&◌, ltb, List, refl, ap}
+use Rattle.std.proofs.Common.{◌≡◌, ℕ, ◌+◌, ◌-◌, Bool, true, false, cond, ◌&&◌, ltb, List, refl}
 use Rattle.sector.specs.declared.size.SizeCode.{SizeCode}
 use Rattle.drive.specs.declared.answers.SectorId.{SectorId}
-use Rattle.drive.specs.declared.answers.Stepping.{Stepping}
-use Rattle.drive.specs.declared.answers.Formatting.{Formatting}
 use Rattle.drive.specs.Model.{blank_track, track, DriveModel, at_cylinder, with_track}
 use Rattle.drive.specs.Calls.{step_answer, stepped_in, stepped_out, format_answer, is_formatted, after_format}
 use Rattle.fault_table.specs.declared.entry.FaultEntry.{FaultEntry}

@@ -1,18 +1,18 @@
 -- What a read under the entries answers, hands over and leaves.
-use Rattle.std.proofs.Common.{◌≡◌, ℕ, Bool, true, false, cond, List, Some, None, Option, sym, refl, ap, ◌∙◌, ap₂}
+use Rattle.std.proofs.Common.{◌≡◌, ℕ, true, false, List, Some, None, Option, sym, refl, ap, ◌∙◌, ap₂}
 use Rattle.std.specs.List.{AllByRecursion as All}
 use Rattle.sector.specs.declared.size.SizeCode.{SizeCode}
 use Rattle.drive.specs.declared.buffer.SectorBuffer.{SectorBuffer}
 use Rattle.drive.specs.declared.answers.Reading.{Reading}
 use Rattle.drive.specs.declared.answers.Reading.TheVariants as reading
-use Rattle.drive.specs.Model.{Showing, no_id, DriveModel}
+use Rattle.drive.specs.Model.{DriveModel}
 use Rattle.drive.specs.Bounds.{Whole}
 use Rattle.drive.specs.Calls.{shown, track_under, attempted_at, read_answer, handed_over, after_read}
 use Rattle.fault_table.specs.declared.entry.FaultKind.{FaultKind}
 use Rattle.fault_table.specs.declared.entry.FaultKind.TheVariants.{NoId, NoDataMark, WrongBits}
 use Rattle.fault_table.specs.declared.entry.FaultEntry.{FaultEntry}
 use Rattle.fault_table.specs.Entries.{met, spent}
-use Rattle.fault_table.specs.Faults.{unmarked, damaged, shown_under, used_below, bits_of, with_faults}
+use Rattle.fault_table.specs.Faults.{shown_under, used_below, bits_of, with_faults}
 use Rattle.fault_table.specs.Under.{unmarked_answer, damaged_buffer}
 use Rattle.fault_table.proofs.Covered.{used_by, shown_by}
 use Rattle.fault_table.proofs.ReadUnder.{answer_of, buffer_of, unmarked_read, damaged_read, unmarked_hand, damaged_hand}

@@ -1,5 +1,5 @@
 -- The front of the buffer's bytes, and the check bytes.
-use Rattle.std.proofs.Common.{◌≡◌, ℕ, ◌-◌, ◌*◌, List, ◌++◌, take, drop, ap, ◌∙◌, ap₂, zero-add, arith}
+use Rattle.std.proofs.Common.{◌≡◌, ℕ, ◌-◌, ◌*◌, List, ◌++◌, take, drop, ap, ◌∙◌, zero-add, arith}
 use Rattle.sector.specs.Bits.{BitSet, inverted, from_bit, marked}
 use Rattle.sector.specs.Sizes.{bytes_of}
 use Rattle.sector.proofs.Inverted.{inverted_cong}

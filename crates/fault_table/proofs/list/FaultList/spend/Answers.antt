@@ -1,11 +1,11 @@
 -- The entries behind the added ones stay as they are.
-use Rattle.std.proofs.Common.{◌≡◌, ℕ, ◌-◌, take, sym, ap, ◌∙◌, arith}
+use Rattle.std.proofs.Common.{◌≡◌, ℕ, ◌-◌, take, ap, ◌∙◌, arith}
 use Rattle.std.proofs.lemmas.List.{length-append, length-drop, take_at}
 use Rattle.fault_table.specs.Entries.{met, spent}
 use Rattle.fault_table.proofs.list.FaultList.spend.Goals as goal
 
-pub invariant-of-self : goal.invariant-of-self
-invariant-of-self c = (c.args.self.now.few, (simp (length-append, length-drop) (omega (arith, c.args.self.now.long)), tt))
+pub invariant_of-self : goal.invariant_of-self
+invariant_of-self c = record { few = c.args.self.now.few; long = simp (length-append, length-drop) (omega (arith, c.args.self.now.long)) }
 
 pub returns : goal.returns
 returns c =

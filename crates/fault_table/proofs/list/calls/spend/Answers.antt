@@ -1,5 +1,5 @@
 -- One entry more, or the one that is met.
-use Rattle.std.proofs.Common.{◌≡◌, sym, ◌∙◌, arith}
+use Rattle.std.proofs.Common.{sym, ◌∙◌, arith}
 use Rattle.fault_table.specs.declared.entry.FaultEntry.{FaultEntry}
 use Rattle.fault_table.specs.declared.entry.FaultKind.TheVariants.{NoId}
 use Rattle.fault_table.proofs.Searched as searched
