@@ -1,18 +1,16 @@
 -- Bursts are apart: a computed test, that no pattern comes back as a short one, turned into the theorem on sets of bits.
-use Rattle.std.proofs.Common.{◌≡◌, ℕ, zero, suc, ◌+◌, ◌-◌, ◌*◌, ◌/◌, ◌%◌, ◌^◌, ◌<◌, ◌≤◌, Bool, true, false, ◌&&◌, ltb, sym, refl, ap, ◌∙◌, subst, ap₂, ⊎_elim, pow-suc, arith, lit≤}
+use Rattle.std.proofs.Common.{◌≡◌, ℕ, zero, suc, ◌+◌, ◌-◌, ◌*◌, ◌^◌, ◌<◌, ◌≤◌, Bool, true, ◌&&◌, ltb, sym, refl, ap, ◌∙◌, subst, ⊎_elim, pow-suc, arith, lit≤}
 use Rattle.std.proofs.lemmas.Bool.{cases_lt, and_parts, ltb-true}
-use Rattle.sector.specs.declared.size.SizeCode.{SizeCode}
 use Rattle.sector.specs.Sizes.{bytes_of}
-use Rattle.sector.specs.Bits.{BitSet, digit_of, Span, OneBurst}
+use Rattle.sector.specs.Bits.{BitSet, Span}
 use Rattle.sector.proofs.Sizes.{bytes_most}
-use Rattle.check_code.specs.Code.{Code, width, step, append, fold, amount_of, ecc_code}
+use Rattle.check_code.specs.Code.{Code, width, step, fold, amount_of, ecc_code}
 use Rattle.check_code.specs.Laws.{Sound}
 use Rattle.check_code.specs.Aligned.{steps}
 use Rattle.check_code.specs.Fold.{digits_same}
 use Rattle.check_code.specs.Register.{below, steps_more, steps_add, steps_lt, steps_same}
 use Rattle.check_code.specs.Window.{Starts, starts, clip, clip_in, digit_same, pattern, pattern_lt, pattern_ge, pattern_fits, padded, amount_below, amount_shows}
 use Rattle.check_code.specs.Sound.{ecc_sound}
-use Rattle.burst.specs.Search.{bits_of}
 use Rattle.burst.specs.Apart.{BurstsApart, NoBurstVanishes}
 
 -- ---- the test: each of the next n registers from v on is above a limit

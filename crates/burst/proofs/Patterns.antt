@@ -1,7 +1,7 @@
 -- A first bit and an odd pattern below 32 name a burst, and every burst has such a name.
-use Rattle.std.proofs.Common.{◌≡◌, ℕ, zero, suc, ◌+◌, ◌-◌, ◌*◌, ◌/◌, ◌%◌, ◌^◌, ◌<◌, ◌≤◌, Bool, true, false, ◌&&◌, eqb, leb, sym, refl, ap, ◌∙◌, subst, ap₂, ⊎_elim, add-zero, mod-lt, pow-suc, div-one, arith, pow_pos, pow_mono, shr-shr}
+use Rattle.std.proofs.Common.{◌≡◌, ℕ, zero, suc, ◌+◌, ◌-◌, ◌*◌, ◌/◌, ◌%◌, ◌^◌, ◌<◌, ◌≤◌, true, false, ◌&&◌, eqb, leb, sym, refl, ap, ◌∙◌, ⊎_elim, add-zero, mod-lt, pow-suc, div-one, arith, pow_mono, shr-shr}
 use native.Mathlib.Nat.{div-eq_of_lt}
-use Rattle.std.proofs.lemmas.Bool.{cases_lt, cases_order, cases_Bool, both_ways, leb-true, and_parts}
+use Rattle.std.proofs.lemmas.Bool.{cases_lt, cases_order, both_ways, leb-true, and_parts}
 use Rattle.sector.specs.Bits.{BitSet, digit_of, marked, OneBurst}
 use Rattle.sector.proofs.Marked.{digit_in, marked_at, marked_before}
 use Rattle.check_code.specs.Code.{append, fold}

@@ -1,11 +1,10 @@
 -- A sector with at most one burst of wrong bits is given back as it was written.
-use Rattle.std.proofs.Common.{◌≡◌, ℕ, ◌+◌, ◌*◌, ◌<◌, ◌≤◌, Bool, true, false, eqb, List, length, Some, None, Option, sym, refl, ap, ◌∙◌, subst, ap₂, ⊎_elim, arith}
+use Rattle.std.proofs.Common.{◌≡◌, ℕ, ◌+◌, ◌*◌, ◌<◌, false, eqb, List, length, Some, None, Option, sym, refl, ap, ◌∙◌, subst, ap₂, ⊎_elim, arith}
 use lib.Bits.{bit_xor}
 use Rattle.std.proofs.lemmas.Bool.{cond-true, cond-false, eq-eqb, ne_eqb}
-use Rattle.sector.specs.declared.size.SizeCode.{SizeCode}
 use Rattle.sector.specs.Sizes.{bytes_of, size_with}
 use Rattle.sector.specs.declared.wrong_bits.Burst.{Burst}
-use Rattle.sector.specs.Bits.{BitSet, from_bit, inverted, OneBurst}
+use Rattle.sector.specs.Bits.{from_bit, inverted, OneBurst}
 use Rattle.sector.proofs.Sizes.{told_by_bytes}
 use Rattle.sector.proofs.Inverted.{length-inverted, inverted_none, inverted_back}
 use Rattle.check_code.specs.Code.{ecc_code, check_bytes_of, difference_of, amount_of}

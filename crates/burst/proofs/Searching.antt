@@ -1,21 +1,21 @@
 -- The search: what one register tells of one candidate, what the loops know, and what the first burst is.
-use Rattle.std.proofs.Common.{◌≡◌, ℕ, zero, suc, ◌+◌, ◌-◌, ◌*◌, ◌/◌, ◌%◌, ◌^◌, ◌<◌, ◌≤◌, Bool, true, false, cond, eqb, Some, None, Option, sym, refl, ap, ◌∙◌, subst, ap₂, ⊎_elim, mod-lt, arith, lit≤, pow_pos}
+use Rattle.std.proofs.Common.{◌≡◌, ℕ, suc, ◌+◌, ◌-◌, ◌*◌, ◌/◌, ◌%◌, ◌^◌, ◌<◌, ◌≤◌, eqb, Some, None, sym, ap, ◌∙◌, subst, ⊎_elim, mod-lt, arith, lit≤, pow_pos}
 use lib.Pow.{mod-mod-pow}
 use Rattle.std.proofs.lemmas.Bool.{cases_lt, cases_Bool, cond-true, cond-false, eq-eqb, ne_eqb, eqb-true}
 use Rattle.sector.specs.declared.size.SizeCode.{SizeCode}
 use Rattle.sector.specs.declared.wrong_bits.Burst.{Burst}
 use Rattle.sector.specs.Sizes.{bytes_of}
 use Rattle.sector.specs.Bits.{BitSet, digit_of, marked, OneBurst}
-use Rattle.check_code.specs.Code.{width, step, fold, digits_of, amount_of, ecc_code}
+use Rattle.check_code.specs.Code.{step, digits_of, ecc_code}
 use Rattle.check_code.specs.Aligned.{steps}
-use Rattle.check_code.specs.Register.{below, below_lt, steps_add, steps_more, steps_same}
+use Rattle.check_code.specs.Register.{below_lt, steps_add, steps_more, steps_same}
 use Rattle.check_code.specs.LawsLemmas.{balance_cong}
 use Rattle.check_code.specs.Window.{clip, clip_lt, pattern_fits, padded, amount_below}
 use Rattle.check_code.specs.Sound.{ecc_sound}
-use Rattle.burst.specs.Search.{bits_of, amount, set_of, first_of, candidate, first_burst, NoneFits, Fits}
+use Rattle.burst.specs.Search.{bits_of, amount, first_of, candidate, first_burst, NoneFits, Fits}
 use Rattle.burst.proofs.Apart.{apart}
 use Rattle.burst.proofs.First.{some_none, some_same, first_none, first_more, first_found, none_below, found_at}
-use Rattle.burst.proofs.Patterns.{mirror, marked_burst, marked_starts, marked-pattern, marked_cut, marked_beyond, Named, named}
+use Rattle.burst.proofs.Patterns.{mirror, marked_burst, marked_starts, marked-pattern, marked_cut, marked_beyond, named}
 
 -- sets that agree in the sector have one amount
 amount_cong : (size : SizeCode) (w u : BitSet) → ((i : ℕ) → i < bits_of size → w i ≡ u i) → amount size w ≡ amount size u

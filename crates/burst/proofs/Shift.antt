@@ -2,7 +2,7 @@
 use Rattle.std.proofs.Common.{◌≡◌, ℕ, suc, ◌+◌, ◌-◌, ◌*◌, ◌/◌, ◌%◌, ◌^◌, ◌<◌, ◌≤◌, Bool, eqb, sym, refl, ap, ◌∙◌, ap₂, mod-eq_of_lt, mul_comm, pow-suc, zero-add, zero-mul, arith}
 use lib.Bits.{bit_xor, bit_and, and_mask, xor_assoc, xor_self, xor_zero_r, xor_block, xor_lt, xor_mod}
 use Rattle.std.proofs.lemmas.Bool.{eqb-true}
-use Rattle.sector.proofs.Every.{every, every_at}
+use Rattle.sector.proofs.Every.{every_at}
 use Rattle.check_code.specs.Code.{Code, width, step}
 use Rattle.check_code.specs.Laws.{Sound}
 use Rattle.check_code.specs.Register.{step_small, step_high}

@@ -1,7 +1,6 @@
 -- What is left is what the definition leaves, and so what was written.
-use Rattle.std.proofs.Common.{◌≡◌, length, sym, ap, ◌∙◌, subst}
-use Rattle.sector.specs.Sizes.{size_with}
-use Rattle.burst.specs.Mending.{correction, mended, Restored}
+use Rattle.std.proofs.Common.{sym, ap, ◌∙◌, subst}
+use Rattle.burst.specs.Mending.{mended, Restored}
 use Rattle.burst.proofs.Restoring.{restored}
 use Rattle.burst.proofs.mending.correct.Goals as goal
 

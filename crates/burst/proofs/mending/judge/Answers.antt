@@ -1,7 +1,6 @@
 -- The burst that is answered is the first that has the difference, which is not 0.
-use Rattle.std.proofs.Common.{◌≡◌, ℕ, eqb, sym, ap, ◌∙◌}
+use Rattle.std.proofs.Common.{ℕ, eqb, sym, ap, ◌∙◌}
 use Rattle.std.proofs.lemmas.Bool.{cond-false, ne_eqb}
-use Rattle.check_code.specs.Code.{ecc_code, difference_of}
 use Rattle.burst.specs.declared.mending.Correction.TheVariants.{Intact}
 use Rattle.burst.specs.Search.{first_burst}
 use Rattle.burst.specs.Mending.{by_burst, judged, correction}

@@ -1,10 +1,9 @@
 -- Each turn rules one candidate or one first bit out; the first that fits is the definition's.
-use Rattle.std.proofs.Common.{◌≡◌, ℕ, ◌+◌, ◌-◌, ◌*◌, ◌^◌, ◌<◌, ◌≤◌, sym, refl, ap, ◌∙◌, subst, arith, rules, MatchOption}
+use Rattle.std.proofs.Common.{◌≡◌, ◌+◌, ◌-◌, ◌*◌, ◌^◌, ◌<◌, sym, refl, ap, ◌∙◌, subst, arith, rules, MatchOption}
 use Rattle.std.proofs.lemmas.Bool.{lt-ltb, ltb-true, both_ways}
-use Rattle.sector.specs.declared.size.SizeCode.{SizeCode}
 use Rattle.check_code.specs.Code.{ecc_code}
 use Rattle.check_code.specs.Aligned.{steps}
-use Rattle.burst.specs.Search.{bits_of, first_burst, NoneFits, Fits}
+use Rattle.burst.specs.Search.{bits_of, NoneFits, Fits}
 use Rattle.burst.proofs.Searching.{Passed, Before, burst_at, back_first, back_more, passed_none, before_none, passed_more, before_more, found, not_found, none_fits, fits}
 use Rattle.burst.proofs.search.find_burst.Goals as goal
 use Rattle.burst.proofs.search.find_burst.Goals.{else-register-mirrored-via-then-register-mirrored+else-ends_within, else-register-mirrored-via-else-register-mirrored}

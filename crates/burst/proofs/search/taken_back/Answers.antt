@@ -1,5 +1,5 @@
 -- One more shift undone is one more shift to make.
-use Rattle.std.proofs.Common.{◌≡◌, sym, ap, ◌∙◌, add-one}
+use Rattle.std.proofs.Common.{sym, ap, ◌∙◌, add-one}
 use Rattle.check_code.specs.Code.{ecc_code}
 use Rattle.check_code.specs.Aligned.{steps}
 use Rattle.check_code.specs.Register.{steps_more}
@@ -10,5 +10,5 @@ loop-i-preserved c =
     let l = c.loop-i in
     let r = c.unshift-register.result in (
       c.unshift-register.ensures.fits,
-      ap (λ n. steps ecc_code n r) (add-one l.-i) ∙ sym (steps_more ecc_code l.-i r) ∙ ap (steps ecc_code l.-i) c.unshift-register.ensures.is ∙ l.invariant.1,
+      ap (λ n. steps ecc_code n r) (add-one l._i) ∙ sym (steps_more ecc_code l._i r) ∙ ap (steps ecc_code l._i) c.unshift-register.ensures.is ∙ l.invariant.1,
     )

@@ -5,4 +5,4 @@ use Rattle.check_code.specs.Aligned.{steps}
 use Rattle.burst.proofs.search.taken_back.Given as goal
 
 abbrev pub invariant-loop-i : goal.invariant-loop-i
-invariant-loop-i l = (l.register < 2 ^ 32) × (steps ecc_code l.-i l.register ≡ l.difference)
+invariant-loop-i l = (l.register < 2 ^ 32) × (steps ecc_code l._i l.register ≡ l.difference)

@@ -18,7 +18,7 @@ loop-i-preserved g c =
     let to : ℕ = c.args.cylinder in
     let ready : d.ready ≡ true = sym c.is_ready.ensures ∙ c.if-not-is_ready.false in
     c.step_toward.ensures ∙ ap (λ x. nearer x to) c.loop-i.invariant
-    ∙ nearer_more d ready d.cylinder to c.loop-i.-i (omega (arith, c.if-cylinder-cylinders.false, c.cylinders.ensures))
+    ∙ nearer_more d ready d.cylinder to c.loop-i._i (omega (arith, c.if-cylinder-cylinders.false, c.cylinders.ensures))
 
 pub returns : goal.returns
 returns g c =
@@ -30,11 +30,11 @@ returns g c =
     let bounds = g.met.D.Drive.bounded c.args.drive.now in
     let few : d.cylinders ≤ g.D.Drive.most.cylinders = bounds.few_cylinders in
     let here : d.cylinder < d.cylinders = bounds.inside in
-    let turns : l.-i ≡ g.D.Drive.most.cylinders = omega (arith, c.loop-i-test.false, c.cylinder_limit-i-end.ensures) in
+    let turns : l._i ≡ g.D.Drive.most.cylinders = omega (arith, c.loop-i-test.false, c.cylinder_limit-i-end.ensures) in
     record {
       answer = sym (cond-true d.ready (cond (ltb to d.cylinders) Found NoCylinder) NotReady ready ∙ cond-true (ltb to d.cylinders) Found NoCylinder (lt-ltb to d.cylinders inside));
       after =
-          l.invariant ∙ ap (at_cylinder d) (closer_all d.cylinder to l.-i (omega arith) (omega arith))
+          l.invariant ∙ ap (at_cylinder d) (closer_all d.cylinder to l._i (omega arith) (omega arith))
           ∙ sym (cond-true d.ready (cond (ltb to d.cylinders) (at_cylinder d to) d) d ready
           ∙ cond-true (ltb to d.cylinders) (at_cylinder d to) d (lt-ltb to d.cylinders inside));
     }

@@ -6,4 +6,4 @@ use Rattle.records.proofs.moves.seek.Given as goal
 
 abbrev pub invariant-loop-i : goal.invariant-loop-i
 invariant-loop-i g l =
-    g.D.Drive.meaning l.drive ≡ at_cylinder (g.D.Drive.meaning l.initial.drive) (closer (g.D.Drive.meaning l.initial.drive).cylinder l.cylinder l.-i)
+    g.D.Drive.meaning l.drive ≡ at_cylinder (g.D.Drive.meaning l.initial.drive) (closer (g.D.Drive.meaning l.initial.drive).cylinder l.cylinder l._i)
