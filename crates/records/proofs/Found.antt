@@ -1,5 +1,5 @@
 -- Where a seek did not find its cylinder, nothing is called and nothing has changed.
-use Rattle.std.proofs.Common.{◌≡◌, ℕ, Bool, true, false, cond, ltb, Ok, Err, sym, refl, ap, ◌∙◌, ⊎_elim}
+use Rattle.std.proofs.Common.{◌≡◌, ℕ, cond, ltb, Err, refl, ◌∙◌, ⊎_elim}
 use Rattle.std.proofs.lemmas.Bool.{cases_Bool, cond-true, cond-false}
 use Rattle.drive.specs.Model.{DriveModel, at_cylinder}
 use Rattle.records.specs.declared.moves.Seeking.{Seeking}

@@ -1,5 +1,5 @@
 -- The front of a buffer, corrected in place.
-use Rattle.std.proofs.Common.{◌≡◌, ℕ, List, ◌++◌, length, take, drop, Some, sym, refl, ap, ◌∙◌}
+use Rattle.std.proofs.Common.{◌≡◌, ℕ, List, ◌++◌, length, take, drop, refl, ap}
 use Rattle.std.proofs.lemmas.List.{take-append-drop}
 use Rattle.sector.specs.declared.size.SizeCode.TheVariants.{Bytes512}
 use Rattle.sector.specs.Sizes.{size_with}

@@ -1,5 +1,5 @@
 -- One attempt of several: it ends them, or leaves one less.
-use Rattle.std.proofs.Common.{◌≡◌, ℕ, suc, ◌+◌, Bool, true, false, cond, sym, refl, ap, ◌∙◌, subst, ap₂}
+use Rattle.std.proofs.Common.{◌≡◌, ℕ, suc, ◌+◌, true, false, sym, ap, ◌∙◌, ap₂}
 use Rattle.std.proofs.lemmas.Bool.{cond-true, cond-false}
 use Rattle.sector.specs.declared.size.SizeCode.TheVariants.{Bytes512}
 use Rattle.drive.specs.declared.buffer.SectorBuffer.{SectorBuffer}

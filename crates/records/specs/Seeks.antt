@@ -1,5 +1,5 @@
 -- Moving the head to a cylinder.
-use Rattle.std.specs.Prelude.{ℕ, cond, ◌&&◌, nat_lt}
+use Rattle.std.specs.Prelude.{ℕ, cond, nat_lt}
 use Rattle.drive.specs.Model.{DriveModel, at_cylinder}
 use Rattle.drive.specs.Calls.{stepped_in, stepped_out}
 use Rattle.records.specs.declared.moves.Seeking.{Seeking}

@@ -1,10 +1,10 @@
 -- A drive of this make has no more cylinders than turns are made.
-use Rattle.std.proofs.Common.{◌≡◌, ℕ, ◌<◌, ◌≤◌, true, cond, ltb, sym, refl, ap, ◌∙◌, arith}
+use Rattle.std.proofs.Common.{◌≡◌, ℕ, ◌<◌, ◌≤◌, true, cond, ltb, sym, ap, ◌∙◌, arith}
 use Rattle.std.proofs.lemmas.Bool.{cond-true, lt-ltb}
 use Rattle.drive.specs.Model.{DriveModel, at_cylinder}
 use Rattle.records.specs.declared.moves.Seeking.TheVariants.{NotReady, NoCylinder, Found}
 use Rattle.records.specs.Seeks.{nearer}
-use Rattle.records.proofs.Steps.{closer, closer_none, closer_all, nearer_more}
+use Rattle.records.proofs.Steps.{closer_none, closer_all, nearer_more}
 use Rattle.records.proofs.moves.seek.Goals as goal
 
 pub loop-i-init : goal.loop-i-init

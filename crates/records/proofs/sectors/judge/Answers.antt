@@ -1,8 +1,7 @@
 -- A delivery is judged by its first 512 bytes, and mended there.
-use Rattle.std.proofs.Common.{◌≡◌, ℕ, List, ◌++◌, length, take, drop, sym, refl, ap, ◌∙◌, ap₂, arith, rules}
+use Rattle.std.proofs.Common.{◌≡◌, ℕ, List, ◌++◌, length, take, sym, ap, ◌∙◌, ap₂, arith, rules}
 use borrow.Rule.Slice.PartMut.{Post-is}
 use Rattle.std.proofs.lemmas.List.{length-take-le}
-use Rattle.burst.specs.Mending.{mended}
 use Rattle.records.specs.Sectors.{by_correction, outcome_of, mended_in}
 use Rattle.records.proofs.Judging.{judged_512, mended_front}
 use Rattle.records.proofs.sectors.judge.Goals as goal

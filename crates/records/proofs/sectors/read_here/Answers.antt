@@ -1,7 +1,7 @@
 -- Each turn is one step of the definition.
-use Rattle.std.proofs.Common.{◌≡◌, ℕ, suc, ◌+◌, ◌-◌, true, false, sym, refl, ap, ◌∙◌, arith}
+use Rattle.std.proofs.Common.{◌≡◌, ℕ, suc, ◌+◌, ◌-◌, sym, refl, ap, ◌∙◌, arith}
 use Rattle.drive.specs.Model.{DriveModel}
-use Rattle.records.specs.Sectors.{is_final, Tried, tried, nine_tries}
+use Rattle.records.specs.Sectors.{Tried, tried, nine_tries}
 use Rattle.records.proofs.Trying.{ends_here, goes_on}
 use Rattle.records.proofs.sectors.read_here.Goals as goal
 

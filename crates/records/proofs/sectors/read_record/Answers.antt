@@ -1,5 +1,5 @@
 -- The attempts are made where the seek found the cylinder, and nowhere else.
-use Rattle.std.proofs.Common.{◌≡◌, Ok, sym, refl, ap, ◌∙◌}
+use Rattle.std.proofs.Common.{◌≡◌, Ok, sym, ap, ◌∙◌}
 use Rattle.drive.specs.Model.{DriveModel}
 use Rattle.records.specs.declared.moves.Seeking.TheVariants.{Found}
 use Rattle.records.specs.Seeks.{seek_answer, sought}

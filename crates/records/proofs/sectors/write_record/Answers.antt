@@ -1,5 +1,5 @@
 -- The attempt is made where the seek found the cylinder, and nowhere else.
-use Rattle.std.proofs.Common.{◌≡◌, ℕ, Ok, sym, ap, ◌∙◌, ap₂}
+use Rattle.std.proofs.Common.{◌≡◌, Ok, sym, ap, ◌∙◌, ap₂}
 use Rattle.sector.specs.declared.size.SizeCode.TheVariants.{Bytes512}
 use Rattle.drive.specs.Model.{DriveModel}
 use Rattle.drive.specs.Calls.{write_answer, after_write}
