@@ -161,7 +161,7 @@ mod tests {
         ];
         for header in rows {
             let mut memory = vec![in rt.alloc(); 0u8; 898]?;
-            check(memory.len() == 898)?;
+            assert!(rt; memory.len() == 898);
             memory[0..6].copy_from_slice(&header.bytes);
             let mut bay = WinchesterImage::new(1, 1, 512, false, memory).bay;
             let mut buffer = SectorBuffer {
@@ -231,9 +231,9 @@ mod tests {
             bay.read(0, 5, SizeCode::Bytes256, &mut buffer),
             Reading::Delivered
         );
-        check(buffer.bytes[255] == 6 && buffer.bytes[256] == 8 && buffer.check[3] == 7)?;
+        assert!(rt; buffer.bytes[255] == 6 && buffer.bytes[256] == 8 && buffer.check[3] == 7);
         let memory = memory_of(bay);
-        check(memory.len() == 1796)?;
+        assert!(rt; memory.len() == 1796);
         // the record of cylinder 1: its head, the first pair not used, the sectors' check bytes and the ends of their bytes
         let expected = [
             (898, 2),
@@ -250,8 +250,11 @@ mod tests {
         for (place, byte) in expected {
             assert_eq!(rt; memory.get(place).copied(), Some(byte));
         }
-        check(memory[1284] == 6 && memory[1539] == 6 && memory[1540] == 0 && memory[1795] == 0)?;
-        check(memory[897] == 9)
+        assert!(rt;
+            memory[1284] == 6 && memory[1539] == 6 && memory[1540] == 0 && memory[1795] == 0
+        );
+        assert!(rt; memory[897] == 9);
+        Ok(())
     }
 
     #[test]
