@@ -1,5 +1,5 @@
 -- One sector more of the sheet, and its damage found.
-use Rattle.std.proofs.Common.{◌≡◌, ℕ, ◌+◌, ◌-◌, ◌*◌, ◌≤◌, List, ◌++◌, length, take, sym, refl, ap, ◌∙◌, ap₂, add-one, arith}
+use Rattle.std.proofs.Common.{◌≡◌, ℕ, ◌-◌, ◌*◌, ◌≤◌, List, ◌++◌, length, take, sym, ap, ◌∙◌, ap₂, add-one, arith}
 use Rattle.std.proofs.lemmas.List.{take_all}
 use Rattle.cue_sheet.specs.Journey.{laid, noted_of, sectors_for}
 use Rattle.cue_sheet.proofs.Sectors.{sector_more, ceil_is}

@@ -1,5 +1,5 @@
 -- The part stands first.
-use Rattle.std.proofs.Common.{length, take, sym, ap, ◌∙◌}
+use Rattle.std.proofs.Common.{length, ap, ◌∙◌}
 use Rattle.std.proofs.lemmas.List.{take_at}
 use Rattle.cue_sheet.proofs.journey.loaded.Goals as goal
 

@@ -1,5 +1,5 @@
 -- Byte by byte the definition's own steps; what it tells of the whole texts is a lemma.
-use Rattle.std.proofs.Common.{◌≡◌, ℕ, ◌+◌, ◌<◌, ◌≤◌, Bool, true, false, cond, eqb, ◌⊎◌, List, length, get_or, drop, Some, None, Option, sym, refl, ap, ◌∙◌, ap₂, inl, inr, ⊎_elim, arith}
+use Rattle.std.proofs.Common.{◌≡◌, ℕ, ◌+◌, ◌≤◌, cond, eqb, ◌⊎◌, length, get_or, drop, Some, None, Option, sym, ap, ◌∙◌, inl, inr, ⊎_elim, arith}
 use Rattle.std.proofs.lemmas.Bool.{cases_lt, cond-true, cond-false, eq-eqb, ne_eqb}
 use Rattle.cue_sheet.specs.Lines.{differing_from, differing_line}
 use Rattle.cue_sheet.proofs.Texts.{no_difference, same_texts, both_go_on, both_end, one_ends}
