@@ -1,5 +1,5 @@
 -- One more entry of a format's sectors.
-use Rattle.std.proofs.Common.{◌≡◌, ℕ, suc, ◌+◌, ◌<◌, ◌≤◌, ◌⊎◌, List, [], ◌∷◌, ◌++◌, length, get_or, take, set, sym, refl, ap, ◌∙◌, subst, ap₂, inl, inr, add-one, arith, length-set, get_or-set_same}
+use Rattle.std.proofs.Common.{◌≡◌, ℕ, ◌+◌, ◌<◌, ◌≤◌, List, [], ◌∷◌, ◌++◌, length, take, set, sym, ap, ◌∙◌, subst, ap₂, inl, inr, add-one, arith, length-set, get_or-set_same}
 use Rattle.std.proofs.lemmas.List.{take_more, take-set-le, take-set}
 use Rattle.std.proofs.lemmas.Bool.{cases_order}
 use Rattle.drive.specs.declared.answers.SectorId.{SectorId}

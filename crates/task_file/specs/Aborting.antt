@@ -1,5 +1,5 @@
 -- The commands that are aborted, by what is seen of the selected drive.
-use Rattle.std.specs.Prelude.{ℕ, ◌*◌, Bool, true, false, not, ◌&&◌, ◌||◌, nat_le, nat_lt}
+use Rattle.std.specs.Prelude.{◌*◌, Bool, true, false, not, ◌&&◌, ◌||◌, nat_le, nat_lt}
 use Rattle.sector.specs.Sizes.{bytes_of}
 use Rattle.check_code.specs.declared.mode.CheckMode.{CheckMode}
 use Rattle.check_code.specs.declared.mode.CheckMode.TheVariants.{Crc, Ecc}

@@ -1,5 +1,5 @@
 -- The beginning of a command.
-use Rattle.std.specs.Prelude.{cond, Some, None}
+use Rattle.std.specs.Prelude.{cond, None}
 use Rattle.task_file.specs.declared.registers.Registers.{Registers}
 use Rattle.task_file.specs.declared.command.Command.{Command}
 use Rattle.task_file.specs.declared.command.Command.TheVariants.{Test, Restore, Seek, Read, Write, Format}

@@ -1,7 +1,5 @@
 -- The commands, and the bytes that give them.
 use Rattle.std.specs.Prelude.{ℕ, ◌/◌, ◌%◌, Bool, true, false, cond, ◌||◌, Some, None, Option, ◌==◌}
-use Rattle.task_file.specs.declared.command.ReadMode.{ReadMode}
-use Rattle.task_file.specs.declared.command.WriteMode.{WriteMode}
 use Rattle.task_file.specs.declared.command.Command.{Command}
 use Rattle.task_file.specs.declared.command.Command.TheVariants.{Test, Restore, Seek, Read, Write, Format}
 

@@ -2,7 +2,6 @@
 use Rattle.std.specs.Prelude.{ℕ, Some, None, Option}
 use Rattle.task_file.specs.declared.failure.SectorError.{SectorError}
 use Rattle.task_file.specs.declared.failure.SectorError.TheVariants.{BadBlock, Data, IdNotFound, NoDataMark}
-use Rattle.task_file.specs.declared.failure.SectorFailure.{SectorFailure}
 use Rattle.task_file.specs.declared.failure.Failure.{Failure}
 use Rattle.task_file.specs.declared.failure.Failure.TheVariants.{Aborted, TrackZero, Sector}
 use Rattle.task_file.specs.declared.failure.Layer.{Layer}

@@ -1,12 +1,11 @@
 -- Bytes that move between the host and the buffer.
-use Rattle.std.specs.Prelude.{ℕ, ◌+◌, ◌-◌, Bool, true, false, cond, not, ◌&&◌, take, None, ◌==◌, nat_lt, slice_index, slice_set}
+use Rattle.std.specs.Prelude.{ℕ, ◌+◌, ◌-◌, Bool, false, cond, not, ◌&&◌, take, None, ◌==◌, nat_lt, slice_index, slice_set}
 use Rattle.sector.specs.declared.size.SizeCode.{SizeCode}
 use Rattle.sector.specs.Sizes.{bytes_of}
 use Rattle.check_code.specs.Code.{check_bytes_of}
 use Rattle.check_code.specs.Mode.{code_of}
 use Rattle.drive.specs.declared.buffer.SectorBuffer.{SectorBuffer}
 use Rattle.task_file.specs.declared.command.ReadMode.{ReadMode}
-use Rattle.task_file.specs.declared.command.WriteMode.{WriteMode}
 use Rattle.task_file.specs.declared.state.Job.TheVariants as job
 use Rattle.task_file.specs.declared.state.Load.{Load}
 use Rattle.task_file.specs.declared.state.Load.TheVariants.{Sector, Track}

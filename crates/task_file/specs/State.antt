@@ -1,9 +1,8 @@
 -- The state of the controller, and small changes of it.
-use Rattle.std.specs.Prelude.{ℕ, Bool, true, false, replicate, Some, None, Option}
+use Rattle.std.specs.Prelude.{Bool, true, false, replicate, Some, None}
 use Rattle.drive.specs.declared.buffer.SectorBuffer.{SectorBuffer}
 use Rattle.task_file.specs.declared.registers.Registers.{Registers}
 use Rattle.task_file.specs.declared.failure.Failure.{Failure}
-use Rattle.task_file.specs.declared.state.Job.{Job}
 use Rattle.task_file.specs.declared.state.Job.TheVariants as job
 use Rattle.task_file.specs.declared.state.Phase.{Phase}
 use Rattle.task_file.specs.declared.state.Phase.TheVariants.{Rest, Busy, Offering, Taking}

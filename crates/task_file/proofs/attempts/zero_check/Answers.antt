@@ -1,5 +1,5 @@
 -- The front of a row of zeros is a row of zeros.
-use Rattle.std.proofs.Common.{◌≡◌, ℕ, take, replicate, ap, ◌∙◌}
+use Rattle.std.proofs.Common.{ℕ, take, replicate, ap, ◌∙◌}
 use native.Mathlib.Nat.{sub-zero}
 use Rattle.std.proofs.lemmas.List.{take-replicate}
 use Rattle.sector.specs.Sizes.{bytes_of}
