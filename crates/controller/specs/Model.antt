@@ -8,13 +8,13 @@ use Rattle.task_file.specs.declared.state.Phase.TheVariants.{Rest, Busy, Offerin
 use Rattle.task_file.specs.declared.state.State.{State}
 use Rattle.task_file.specs.declared.view.DriveView.{DriveView}
 use Rattle.task_file.specs.Registers.{selected}
-use Rattle.task_file.specs.State.{fresh, reset, is_busy, requests}
+use Rattle.task_file.specs.State.{fresh, reset, requests}
 use Rattle.task_file.specs.Aborting.{no_drive}
 use Rattle.controller.specs.declared.access.Refusal.{Refusal}
 use Rattle.controller.specs.declared.access.Lines.{Lines}
 use Rattle.controller.specs.declared.controller.Controller.{Controller}
 use Rattle.controller.specs.Access.{read_answer_of, state_after_read, write_answer_of, state_after_write}
-use Rattle.controller.specs.Turns.{Turned, worked, without_drive}
+use Rattle.controller.specs.Turns.{worked, without_drive}
 
 -- the controller's state, and what its drives mean
 pub record ControllerModel : Type 0 where

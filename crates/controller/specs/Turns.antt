@@ -1,6 +1,5 @@
 -- One turn of a busy controller on the selected drive: one step, or one attempt, or one format.
-use Rattle.std.specs.Prelude.{ℕ, ◌+◌, min, Bool, cond, List, ◌==◌, nat_lt}
-use Rattle.sector.specs.declared.size.SizeCode.{SizeCode}
+use Rattle.std.specs.Prelude.{ℕ, ◌+◌, min, cond, List, ◌==◌, nat_lt}
 use Rattle.drive.specs.declared.answers.SectorId.{SectorId}
 use Rattle.drive.specs.Model.{DriveModel}
 use Rattle.drive.specs.Calls.{stepped_in, stepped_out, read_answer, handed_over, after_read, write_answer, after_write, format_answer, after_format}

@@ -1,8 +1,7 @@
 -- What a register read and a register write can come to.
-use Rattle.std.proofs.Common.{◌≡◌, ℕ, Bool, true, false, cond, not, ◌||◌, ◌⊎◌, Some, None, Option, sym, refl, ◌∙◌, inl, inr, arith}
+use Rattle.std.proofs.Common.{◌≡◌, ℕ, false, Some, None, Option, refl}
 use Rattle.task_file.specs.declared.registers.Register.{Register}
 use Rattle.task_file.specs.declared.registers.Register.TheVariants as register
-use Rattle.task_file.specs.declared.registers.Registers.{Registers}
 use Rattle.task_file.specs.declared.command.Command.{Command}
 use Rattle.task_file.specs.declared.command.ReadMode.{ReadMode}
 use Rattle.task_file.specs.declared.state.Load.{Load}
@@ -13,7 +12,7 @@ use Rattle.task_file.specs.declared.view.DriveView.{DriveView}
 use Rattle.task_file.specs.Registers.{register_numbered}
 use Rattle.task_file.specs.Commands.{command_of}
 use Rattle.task_file.specs.Registers.{stored}
-use Rattle.task_file.specs.State.{with_registers, with_intrq, is_busy, requests}
+use Rattle.task_file.specs.State.{with_registers, with_intrq, is_busy}
 use Rattle.task_file.specs.Beginning.{begun}
 use Rattle.task_file.specs.Moving.{drawn, put}
 use Rattle.controller.specs.declared.access.Refusal.{Refusal}

@@ -1,12 +1,11 @@
 -- What a call on a drive can come to, and that it keeps what is seen of the drive.
-use Rattle.std.proofs.Common.{◌≡◌, ℕ, ◌+◌, ◌-◌, ◌<◌, ◌≤◌, Bool, true, false, cond, not, ◌&&◌, ltb, ◌⊎◌, List, get_or, take, set, Some, None, Option, refl, inl, inr, arith}
-use Rattle.std.proofs.lemmas.Bool.{cond_both, ltb-true, lt-ltb, le-ltb, and_parts, and_from, cases_order, cond-true}
+use Rattle.std.proofs.Common.{◌≡◌, ℕ, ◌+◌, ◌-◌, ◌<◌, ◌≤◌, Bool, true, not, ◌&&◌, ltb, List, get_or, Some, None, Option, refl, inl, inr, arith}
+use Rattle.std.proofs.lemmas.Bool.{cond_both, lt-ltb, le-ltb, and_from, cases_order, cond-true}
 use Rattle.sector.specs.declared.size.SizeCode.{SizeCode}
 use Rattle.drive.specs.declared.buffer.SectorBuffer.{SectorBuffer}
 use Rattle.drive.specs.declared.answers.SectorId.{SectorId}
 use Rattle.drive.specs.Model.{Sector, no_sector, slot_of, blank_track, Showing, no_id, no_data_mark, wrong_bits, DriveModel, at_cylinder, with_track, track}
 use Rattle.drive.specs.Calls.{on_slot, attempted, track_under, shown, attempted_at, stepped_in, stepped_out, after_read, written, after_write, format_answer, is_formatted, after_format}
-use Rattle.task_file.specs.declared.view.DriveView.{DriveView}
 use Rattle.controller.specs.Model.{view_of}
 use Rattle.controller.specs.Turns.{nearer}
 

@@ -1,5 +1,5 @@
 -- Every history leads to a controller that is in order, and a turn of a busy one leaves fewer turns to make.
-use Rattle.std.proofs.Common.{◌≡◌, ℕ, zero, suc, ◌+◌, ◌-◌, ◌<◌, ◌≤◌, Bool, true, false, cond, not, ◌&&◌, eqb, ltb, ◌⊎◌, List, [], ◌∷◌, Some, None, sym, refl, ap, ◌∙◌, subst, inl, inr, add-one, arith, lit≤}
+use Rattle.std.proofs.Common.{◌≡◌, ℕ, ◌+◌, ◌-◌, ◌<◌, ◌≤◌, Bool, true, false, not, ◌&&◌, eqb, ltb, List, [], ◌∷◌, sym, refl, ap, ◌∙◌, subst, add-one, arith, lit≤}
 use Rattle.std.proofs.lemmas.Bool.{cond_both, ltb-true}
 use Rattle.drive.specs.Model.{DriveModel}
 use Rattle.task_file.specs.declared.registers.Registers.{Registers}
@@ -18,17 +18,17 @@ use Rattle.task_file.specs.declared.state.State.{State}
 use Rattle.task_file.specs.declared.view.DriveView.{DriveView}
 use Rattle.task_file.specs.Registers.{cylinder_of, size_at, selected}
 use Rattle.task_file.specs.Aborting.{aborts, no_drive}
-use Rattle.task_file.specs.State.{with_registers, with_intrq, with_phase, with_buffer, ended, cleared, is_busy}
-use Rattle.task_file.specs.Beginning.{first_phase, registers_for, begun_from, begun}
-use Rattle.task_file.specs.Moving.{moved_length, load_is_long, with_byte, all_drawn, drawn, checked, filled, put}
-use Rattle.controller.specs.Model.{ControllerModel, model, with_state, made, view_of, seen_at, seen, turned_in, after_turn, after_reset, after_register_read, after_register_write}
+use Rattle.task_file.specs.State.{with_intrq, with_phase, ended, is_busy}
+use Rattle.task_file.specs.Beginning.{first_phase, registers_for, begun}
+use Rattle.task_file.specs.Moving.{moved_length, load_is_long, all_drawn, drawn, checked, filled, put}
+use Rattle.controller.specs.Model.{ControllerModel, with_state, made, view_of, seen_at, seen, turned_in, after_turn, after_register_read, after_register_write}
 use Rattle.controller.specs.Turns.{Turned, worked, without_drive}
 use Rattle.histories.specs.declared.call.Call.{Call}
 use Rattle.histories.specs.declared.call.Call.TheVariants as call
 use Rattle.histories.specs.Runs.{called, runs, at, Reached}
 use Rattle.histories.specs.Working.{turns, under_way, Able, Counted, InOrder}
 use Rattle.histories.proofs.Accesses.{after_read_access, after_write_access}
-use Rattle.histories.proofs.Working.{able_job, moves_some, left_in, Onward, Progress, progress}
+use Rattle.histories.proofs.Working.{able_job, moves_some, left_in, Progress, progress}
 
 -- ---- what is seen
 pub seen_at_same : (sel : Selection) (b : ControllerModel) (s : State) → seen_at sel (with_state b s) ≡ seen_at sel b

@@ -1,7 +1,6 @@
 -- Runs one after another, and what one call more adds to a run.
 use Rattle.std.proofs.Common.{◌≡◌, ℕ, ◌+◌, ◌<◌, List, [], ◌∷◌, ◌++◌, length, get_or, take, sym, refl, ap, ◌∙◌, ap₂}
 use Rattle.std.proofs.lemmas.List.{take_more}
-use Rattle.drive.specs.Model.{DriveModel}
 use Rattle.controller.specs.Model.{ControllerModel, made}
 use Rattle.histories.specs.declared.call.Call.{Call}
 use Rattle.histories.specs.declared.call.Answer.{Answer}

@@ -1,5 +1,5 @@
 -- One turn of a job that can be done: what is under way stays doable, its counters in range, and fewer turns are left.
-use Rattle.std.proofs.Common.{◌≡◌, ℕ, zero, suc, ◌+◌, ◌-◌, ◌<◌, ◌≤◌, min, Bool, true, false, cond, not, ◌&&◌, ◌||◌, eqb, ltb, leb, ◌⊎◌, Some, None, Option, sym, refl, ap, ◌∙◌, subst, inl, inr, arith, lit<}
+use Rattle.std.proofs.Common.{◌≡◌, ℕ, ◌+◌, ◌-◌, ◌<◌, ◌≤◌, Bool, true, false, not, ◌&&◌, eqb, ltb, leb, Some, None, Option, sym, refl, ap, subst, arith, lit<}
 use Rattle.std.proofs.lemmas.Bool.{cond_both, ltb-true, leb-false, eqb-true, eqb-false, or_parts, not-false}
 use Rattle.sector.specs.declared.size.SizeCode.{SizeCode}
 use Rattle.sector.specs.declared.size.SizeCode.TheVariants.{Bytes256, Bytes512, Bytes1024, Bytes128}
@@ -12,12 +12,10 @@ use Rattle.drive.specs.declared.answers.Writing.TheVariants as writing
 use Rattle.drive.specs.declared.answers.Formatting.{Formatting}
 use Rattle.drive.specs.declared.answers.Formatting.TheVariants as formatting
 use Rattle.drive.specs.Model.{DriveModel}
-use Rattle.drive.specs.Calls.{stepped_out, read_answer, handed_over, after_read, write_answer, after_write, format_answer, after_format}
+use Rattle.drive.specs.Calls.{read_answer, handed_over, write_answer, format_answer}
 use Rattle.task_file.specs.declared.registers.Registers.{Registers}
 use Rattle.task_file.specs.declared.command.Command.{Command}
 use Rattle.task_file.specs.declared.command.Command.TheVariants as command
-use Rattle.task_file.specs.declared.command.ReadMode.{ReadMode}
-use Rattle.task_file.specs.declared.command.WriteMode.{WriteMode}
 use Rattle.task_file.specs.declared.failure.SectorError.{SectorError}
 use Rattle.task_file.specs.declared.failure.SectorError.TheVariants as error
 use Rattle.task_file.specs.declared.failure.Failure.{Failure}
@@ -30,18 +28,17 @@ use Rattle.task_file.specs.declared.state.ReadJob.{ReadJob}
 use Rattle.task_file.specs.declared.state.WriteJob.{WriteJob}
 use Rattle.task_file.specs.declared.state.Job.{Job}
 use Rattle.task_file.specs.declared.state.Job.TheVariants.{Test, Restore, Seek, Read, Write, Format}
-use Rattle.task_file.specs.declared.state.Load.TheVariants.{Sector, Track}
 use Rattle.task_file.specs.declared.state.Phase.{Phase}
 use Rattle.task_file.specs.declared.state.Phase.TheVariants.{Rest, Busy, Offering, Taking}
 use Rattle.task_file.specs.declared.state.State.{State}
 use Rattle.task_file.specs.declared.view.DriveView.{DriveView}
-use Rattle.task_file.specs.Registers.{cylinder_of, size_at, mode_at, next_sector, at_count_0}
+use Rattle.task_file.specs.Registers.{cylinder_of, size_at, mode_at, next_sector}
 use Rattle.task_file.specs.Aborting.{is_unusable, unfit_for_floppy, is_hindered, aborts, is_ecc}
 use Rattle.task_file.specs.Moving.{moved_length}
-use Rattle.task_file.specs.State.{with_registers, with_failure, with_phase, with_buffer, with_corrected, blank_buffer, ended, failed}
-use Rattle.task_file.specs.Attempts.{attempts_with, sector_failure, retried, seen_before, outcome_of, verdict_of, offering, sector_taken, read_failed, mended_buffer, corrected_by, read_by, read_judged, sector_written, write_judged, format_judged, ids_of, zero_check}
+use Rattle.task_file.specs.State.{with_registers, with_failure, with_buffer, with_corrected, blank_buffer, ended, failed}
+use Rattle.task_file.specs.Attempts.{sector_failure, retried, seen_before, outcome_of, verdict_of, offering, sector_taken, read_failed, corrected_by, read_by, read_judged, sector_written, write_judged, format_judged, zero_check}
 use Rattle.controller.specs.Model.{view_of}
-use Rattle.controller.specs.Turns.{Turned, turned, restore_turn, nearer, once_there, read_act, write_act, format_act, ids_asked, worked}
+use Rattle.controller.specs.Turns.{Turned, turned, nearer, once_there, read_act, write_act, format_act, ids_asked, worked}
 use Rattle.histories.specs.Working.{under_way, Able, Counted}
 use Rattle.histories.proofs.Drives.{same_out, same_nearer, same_read, same_write, same_format, stands_read, stands_write, stands_format, apart, stepped_lower, nearer_by_one}
 

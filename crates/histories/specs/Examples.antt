@@ -1,5 +1,5 @@
 -- The worked examples of codes and controller, as one list.
-use Rattle.std.specs.Prelude.{◌≡◌, ℕ, Bool, true, false, cond, ◌&&◌, List, [], ◌∷◌, ◌++◌, replicate, Ok, Result, ◌==◌, nat_lt}
+use Rattle.std.specs.Prelude.{◌≡◌, ℕ, true, false, cond, ◌&&◌, List, [], ◌∷◌, ◌++◌, replicate, Ok, Result, ◌==◌, nat_lt}
 use Rattle.sector.specs.declared.size.SizeCode.TheVariants.{Bytes128}
 use Rattle.sector.specs.Bits.{marked}
 use Rattle.check_code.specs.Code.{Code, crc_code, ecc_code, check_bytes_of}
@@ -8,7 +8,7 @@ use Rattle.drive.specs.Model.{Sector, Showing, no_id, wrong_bits, intact, DriveM
 use Rattle.controller.specs.declared.access.Refusal.{Refusal}
 use Rattle.controller.specs.Model.{ControllerModel, read_answered}
 use Rattle.histories.specs.declared.call.Call.{Call}
-use Rattle.histories.specs.declared.call.Call.TheVariants.{Read, Write, Turn}
+use Rattle.histories.specs.declared.call.Call.TheVariants.{Write, Turn}
 use Rattle.histories.specs.Runs.{at}
 
 -- ---- drives for the examples

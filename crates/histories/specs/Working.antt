@@ -1,9 +1,8 @@
 -- What is under way in a controller, and that it can be done: the invariant of all histories.
-use Rattle.std.specs.Prelude.{◌≡◌, ℕ, zero, suc, ◌+◌, ◌-◌, ◌<◌, ◌≤◌, Bool, true, false, Some, None, Option}
+use Rattle.std.specs.Prelude.{◌≡◌, ℕ, zero, suc, ◌<◌, ◌≤◌, false, Some, None, Option}
 use Rattle.task_file.specs.declared.registers.Registers.{Registers}
 use Rattle.task_file.specs.declared.command.Command.{Command}
 use Rattle.task_file.specs.declared.command.Command.TheVariants as command
-use Rattle.task_file.specs.declared.state.Job.{Job}
 use Rattle.task_file.specs.declared.state.Job.TheVariants.{Test, Restore, Seek, Read, Write, Format}
 use Rattle.task_file.specs.declared.state.Load.TheVariants.{Sector, Track}
 use Rattle.task_file.specs.declared.state.Phase.{Phase}

@@ -1,6 +1,5 @@
 -- Each turn of the loop is one turn, and after the last none is left.
-use Rattle.std.proofs.Common.{◌≡◌, ℕ, ◌+◌, ◌<◌, ◌≤◌, max, sym, refl, ap, ◌∙◌, subst, arith}
-use native.Mathlib.Nat.{le-max_left, le-max_right}
+use Rattle.std.proofs.Common.{◌≡◌, ℕ, ◌+◌, ◌≤◌, sym, refl, ap, ◌∙◌, subst, arith}
 use Rattle.controller.specs.Model.{model_of}
 use Rattle.histories.specs.Working.{turns}
 use Rattle.histories.proofs.Orders.{Within, left-most, Still, still_more, still_ends, turns_more}

@@ -1,5 +1,5 @@
 -- Each turn of the loop makes one call more.
-use Rattle.std.proofs.Common.{◌≡◌, ◌<◌, length, take, sym, refl, ap, ◌∙◌, arith, rules}
+use Rattle.std.proofs.Common.{◌<◌, length, ap, ◌∙◌, rules}
 use Rattle.std.proofs.lemmas.List.{take_all}
 use Rattle.controller.specs.Model.{model_of}
 use Rattle.histories.specs.Runs.{runs, answers}
