@@ -18,7 +18,7 @@ use sector::SizeCode;
 pub extern "C" fn disk_crc(bytes: &[u8]) -> u32
     ensures { result ≡ check_of crc_code bytes.now }
 {
-    remainder::<Crc>(<Crc as check_code::CheckCode>::start(), bytes)
+    remainder::<Crc>(Crc::start(), bytes)
 }
 
 // The ECC of some bytes.
@@ -26,7 +26,7 @@ pub extern "C" fn disk_crc(bytes: &[u8]) -> u32
 pub extern "C" fn disk_ecc(bytes: &[u8]) -> u32
     ensures { result ≡ check_of ecc_code bytes.now }
 {
-    remainder::<Ecc>(<Ecc as check_code::CheckCode>::start(), bytes)
+    remainder::<Ecc>(Ecc::start(), bytes)
 }
 
 // The first bit of the burst that a difference tells of in a sector of 512 bytes, or FFFFh where none has it.
