@@ -6,8 +6,9 @@ use super::registers::{
 };
 use anyhow::anyhow;
 use controller::{Controller, Lines};
-use drive::{Drive, Place};
+use drive::Drive;
 use histories::{Answer, Call, finish, make_call, run};
+use records::Place;
 use std::alloc::Global;
 
 // The bytes of a record, which are those of a sector.

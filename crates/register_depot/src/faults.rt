@@ -1,7 +1,8 @@
 // The faults that are laid over the drive before it is fitted.
 use anyhow::anyhow;
-use drive::{Drive, Place};
+use drive::Drive;
 use fault_table::{AddRefusal, FaultEntry, FaultKind, FaultTable};
+use records::Place;
 use sector::Burst;
 use std::io;
 

@@ -2,8 +2,8 @@
 use super::console::{Console, RECORD};
 use super::outcome::{Ending, Outcome};
 use super::registers::READ;
-use drive::{Drive, Place};
-use records::Grid;
+use drive::Drive;
+use records::{Grid, Place};
 use std::io;
 
 // A line's state in a word.

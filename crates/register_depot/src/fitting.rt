@@ -1,9 +1,9 @@
 // The drives: their measures, their images, and where records lie on the Winchester.
 use super::console::RECORD;
 use anyhow::anyhow;
-use drive::{Bay, Place};
+use drive::Bay;
 use image::{FloppyImage, WinchesterImage};
-use records::Grid;
+use records::{Grid, Place};
 use std::alloc::{AllocError, Global};
 use std::env;
 

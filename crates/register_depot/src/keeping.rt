@@ -2,8 +2,8 @@
 use super::console::{Console, RECORD};
 use super::outcome::Outcome;
 use super::registers::{FORMAT, RESTORE, WRITE};
-use drive::{Drive, Place};
-use records::Grid;
+use drive::Drive;
+use records::{Grid, Place};
 use std::io;
 
 // Sends the head to cylinder 0, at the depot or on site.
