@@ -134,62 +134,130 @@ fn number_of(answer: Answer) -> u8 {
     }
 }
 
-// Makes a call so many times, and has this answer each time.
+// Where a test stands: its script, and the number of the step that is taken.
+#[derive(Clone, Copy)]
+struct Spot<'a> {
+    script: &'a str,
+    step: usize,
+}
+
+// Makes a call, and has this answer.
 fn call<W: Drive, F: Drive>(
     rt: &impl Abort,
+    at: Spot,
     board: &mut Controller<W, F>,
     call: Call,
     answer: Answer,
+) {
+    assert_eq!(rt;
+        make_call(board, call),
+        answer,
+        "{}, step {}",
+        at.script,
+        at.step
+    );
+}
+
+// Makes a call so many times, and has this answer each time.
+fn call_often<W: Drive, F: Drive>(
+    rt: &impl Abort,
+    at: Spot,
+    board: &mut Controller<W, F>,
+    each: Call,
+    answer: Answer,
     times: u16,
-) -> Result<(), Fail> {
+) {
     for _ in 0..times {
-        assert_eq!(rt; make_call(board, call), answer);
+        call(rt, at, board, each, answer);
     }
-    Ok(())
+}
+
+// Makes a call that is refused, by the refusal of this number.
+fn refused<W: Drive, F: Drive>(
+    rt: &impl Abort,
+    at: Spot,
+    board: &mut Controller<W, F>,
+    call: Call,
+    why: u8,
+) {
+    assert_eq!(rt;
+        number_of(make_call(board, call)),
+        why,
+        "{}, step {}",
+        at.script,
+        at.step
+    );
 }
 
 // Reads registers 2 to 6.
 fn read_registers<W: Drive, F: Drive>(
     rt: &impl Abort,
+    at: Spot,
     board: &mut Controller<W, F>,
     bytes: [u8; 5],
-) -> Result<(), Fail> {
+) {
     for number in 2..7u8 {
         let byte = bytes[number as usize - 2];
-        assert_eq!(rt; make_call(board, Call::Read(number)), Answer::Byte(byte));
+        call(rt, at, board, Call::Read(number), Answer::Byte(byte));
     }
-    Ok(())
 }
 
-// Gives a command, and turns until BUSY is off.
-fn run<W: Drive, F: Drive>(
+// Turns until BUSY is off.
+fn turns<W: Drive, F: Drive>(rt: &impl Abort, at: Spot, board: &mut Controller<W, F>, count: u16) {
+    assert_eq!(rt; finish(board), count, "{}, step {}", at.script, at.step);
+}
+
+// Looks at the lines.
+fn lines<W: Drive, F: Drive>(
     rt: &impl Abort,
-    board: &mut Controller<W, F>,
-    command: u8,
-    turns: u16,
-) -> Result<(), Fail> {
-    assert_eq!(rt; make_call(board, Call::Write(7, command)), Answer::Done);
-    assert_eq!(rt; finish(board), turns);
-    Ok(())
+    at: Spot,
+    board: &Controller<W, F>,
+    drq: bool,
+    intrq: bool,
+) {
+    assert_eq!(rt;
+        board.lines(),
+        Lines { drq, intrq },
+        "{}, step {}",
+        at.script,
+        at.step
+    );
 }
 
 // Looks at the lines, and reads the status.
 fn read_status<W: Drive, F: Drive>(
     rt: &impl Abort,
+    at: Spot,
     board: &mut Controller<W, F>,
     byte: u8,
     intrq: bool,
-) -> Result<(), Fail> {
+) {
     let drq = byte / 8 % 2 == 1;
-    assert_eq!(rt; board.lines(), Lines { drq, intrq });
-    assert_eq!(rt; make_call(board, Call::Read(7)), Answer::Byte(byte));
-    assert_eq!(rt; board.lines(), Lines { drq, intrq: false });
-    Ok(())
+    lines(rt, at, board, drq, intrq);
+    call(rt, at, board, Call::Read(7), Answer::Byte(byte));
+    lines(rt, at, board, drq, false);
+}
+
+// Looks at the last fault.
+fn last_fault<W: Drive, F: Drive>(
+    rt: &impl Abort,
+    at: Spot,
+    board: &Controller<W, F>,
+    fault: Option<Fault>,
+) {
+    assert_eq!(rt;
+        board.last_fault(),
+        fault,
+        "{}, step {}",
+        at.script,
+        at.step
+    );
 }
 
 // Resets the board, and gives a command with these registers.
 fn give_command<W: Drive, F: Drive>(
     rt: &impl Abort,
+    at: Spot,
     board: &mut Controller<W, F>,
     registers: [u8; 5],
     command: u8,
@@ -198,105 +266,92 @@ fn give_command<W: Drive, F: Drive>(
     board.turn();
     for number in 2..7u8 {
         let byte = registers[number as usize - 2];
-        assert_eq!(rt; make_call(board, Call::Write(number, byte)), Answer::Done);
+        call(rt, at, board, Call::Write(number, byte), Answer::Done);
     }
-    assert_eq!(rt; make_call(board, Call::Write(7, command)), Answer::Done);
+    call(rt, at, board, Call::Write(7, command), Answer::Done);
 }
 
 // What shows after a command that left these registers and this status.
 fn has_left<W: Drive, F: Drive>(
     rt: &impl Abort,
+    at: Spot,
     board: &mut Controller<W, F>,
     registers: [u8; 5],
     status: u8,
-) -> Result<(), Fail> {
+) {
     let aborted = status % 2 == 1;
-    assert_eq!(rt;
-        board.last_fault(),
-        if aborted { Some(ABORTED) } else { None }
-    );
+    last_fault(rt, at, board, if aborted { Some(ABORTED) } else { None });
     if status != 0x80 {
         let error = if aborted { 4 } else { 0 };
-        assert_eq!(rt; make_call(board, Call::Read(1)), Answer::Byte(error));
-        read_registers(rt, board, registers)?;
+        call(rt, at, board, Call::Read(1), Answer::Byte(error));
+        read_registers(rt, at, board, registers);
     }
-    read_status(rt, board, status, aborted)
+    read_status(rt, at, board, status, aborted);
 }
 
 // Gives each of COMMANDS with this SDH, count and cylinder; Restore alone changes registers.
 fn leave_statuses<W: Drive, F: Drive>(
     rt: &impl Abort,
+    at: Spot,
     board: &mut Controller<W, F>,
     sdh: u8,
     count: u8,
     cylinder: u16,
     statuses: [u8; 8],
-) -> Result<(), Fail> {
+) {
     let [high, low] = cylinder.to_be_bytes();
     for place in 0..8usize {
         let command = COMMANDS[place];
-        give_command(rt, board, [count, 9, low, high, sdh], command);
+        give_command(rt, at, board, [count, 9, low, high, sdh], command);
         let left = match command {
             0x10 => [count, 9, 0, 0, sdh],
             _ => [count, 9, low, high, sdh],
         };
-        has_left(rt, board, left, statuses[place]).note(format_args!("command {place}"))?;
+        has_left(rt, at, board, left, statuses[place]);
     }
-    Ok(())
 }
 
 // Takes one step.
-fn take<W: Drive, F: Drive>(
-    rt: &impl Abort,
-    board: &mut Controller<W, F>,
-    step: Step,
-) -> Result<(), Fail> {
+fn take<W: Drive, F: Drive>(rt: &impl Abort, at: Spot, board: &mut Controller<W, F>, step: Step) {
     match step {
-        Step::Read(number, byte) => call(rt, board, Call::Read(number), Answer::Byte(byte), 1),
-        Step::Write(number, byte) => call(rt, board, Call::Write(number, byte), Answer::Done, 1),
-        Step::NoRead(number, why) => {
-            assert_eq!(rt; number_of(make_call(board, Call::Read(number))), why);
-            Ok(())
-        },
-        Step::NoWrite(number, byte, why) => {
-            assert_eq!(rt; number_of(make_call(board, Call::Write(number, byte))), why);
-            Ok(())
+        Step::Read(number, byte) => call(rt, at, board, Call::Read(number), Answer::Byte(byte)),
+        Step::Write(number, byte) => {
+            call(rt, at, board, Call::Write(number, byte), Answer::Done);
         }
-        Step::Registers(bytes) => read_registers(rt, board, bytes),
-        Step::Draw(byte, times) => call(rt, board, Call::Read(0), Answer::Byte(byte), times),
-        Step::Give(byte, times) => call(rt, board, Call::Write(0, byte), Answer::Done, times),
-        Step::Run(command, turns) => run(rt, board, command, turns),
-        Step::Turn => call(rt, board, Call::Turn, Answer::Done, 1),
-        Step::Turns(turns) => {
-            assert_eq!(rt; finish(board), turns);
-            Ok(())
-        },
-        Step::Reset => call(rt, board, Call::Reset, Answer::Done, 1),
-        Step::Lines(drq, intrq) => {
-            assert_eq!(rt; board.lines(), Lines { drq, intrq });
-            Ok(())
-        },
-        Step::Status(byte, intrq) => read_status(rt, board, byte, intrq),
+        Step::NoRead(number, why) => refused(rt, at, board, Call::Read(number), why),
+        Step::NoWrite(number, byte, why) => {
+            refused(rt, at, board, Call::Write(number, byte), why);
+        }
+        Step::Registers(bytes) => read_registers(rt, at, board, bytes),
+        Step::Draw(byte, times) => {
+            call_often(rt, at, board, Call::Read(0), Answer::Byte(byte), times);
+        }
+        Step::Give(byte, times) => {
+            call_often(rt, at, board, Call::Write(0, byte), Answer::Done, times);
+        }
+        Step::Run(command, count) => {
+            call(rt, at, board, Call::Write(7, command), Answer::Done);
+            turns(rt, at, board, count);
+        }
+        Step::Turn => call(rt, at, board, Call::Turn, Answer::Done),
+        Step::Turns(count) => turns(rt, at, board, count),
+        Step::Reset => call(rt, at, board, Call::Reset, Answer::Done),
+        Step::Lines(drq, intrq) => lines(rt, at, board, drq, intrq),
+        Step::Status(byte, intrq) => read_status(rt, at, board, byte, intrq),
         Step::Fault(layer, error, cylinder, head, number, attempts) => {
-            assert_eq!(rt;
-                board.last_fault(),
-                Some(Fault {
-                    layer,
-                    error,
-                    cylinder,
-                    head,
-                    number,
-                    attempts,
-                })
-            );
-            Ok(())
-        },
-        Step::NoFault => {
-            assert_eq!(rt; board.last_fault(), None);
-            Ok(())
-        },
+            let fault = Fault {
+                layer,
+                error,
+                cylinder,
+                head,
+                number,
+                attempts,
+            };
+            last_fault(rt, at, board, Some(fault));
+        }
+        Step::NoFault => last_fault(rt, at, board, None),
         Step::Statuses(sdh, count, cylinder, statuses) => {
-            leave_statuses(rt, board, sdh, count, cylinder, statuses)
+            leave_statuses(rt, at, board, sdh, count, cylinder, statuses);
         }
     }
 }
@@ -304,19 +359,19 @@ fn take<W: Drive, F: Drive>(
 // Takes the steps of a script, one after another.
 pub fn play<W: Drive, F: Drive>(
     rt: &impl Abort,
+    script: &str,
     board: &mut Controller<W, F>,
     steps: &[Step],
-) -> Result<(), Fail> {
-    for (place, step) in steps.iter().enumerate() {
-        take(rt, board, *step).note(format_args!("step {place}"))?;
+) {
+    for (step, taken) in steps.iter().enumerate() {
+        take(rt, Spot { script, step }, board, *taken);
     }
-    Ok(())
 }
 
 // Plays each script on a board of its own, with the faults of FLAWS.
 pub fn play_each(rt: &impl Abort, heap: Global, scripts: &[Script]) -> Result<(), Fail> {
     for (name, protected, steps) in scripts {
-        play(rt, &mut board(rt, heap, *protected)?, steps).note(*name)?;
+        play(rt, name, &mut board(rt, heap, *protected)?, steps);
     }
     Ok(())
 }

@@ -137,7 +137,7 @@ fn is_command(byte: u8) -> bool {
 
 // Every byte written as a command to a controller without drives: Test runs, other commands are aborted, and the rest refused.
 #[test]
-fn command_bytes(rt: HostRuntime) -> Result<(), Fail> {
+fn command_bytes(rt: HostRuntime) {
     let mut board = Controller::new(EmptyBay, EmptyBay);
     for byte in 0..=255u8 {
         let given = if is_command(byte) {
@@ -153,9 +153,9 @@ fn command_bytes(rt: HostRuntime) -> Result<(), Fail> {
         let turns = Step::Turns(if byte == 0x90 { 1 } else { 0 });
         play(
             &rt,
+            "command bytes",
             &mut board,
             &[Step::Reset, Step::Turns(1), given, fault, turns],
-        )?;
+        );
     }
-    Ok(())
 }

@@ -80,7 +80,12 @@ const EMPTY: &[Step] = &[
 // Every cause of abortion, for every command.
 #[test]
 fn abortions(rt: HostRuntime) -> Result<(), Fail> {
-    play(&rt, &mut Controller::new(EmptyBay, EmptyBay), EMPTY).note("empty")?;
+    play(
+        &rt,
+        "empty",
+        &mut Controller::new(EmptyBay, EmptyBay),
+        EMPTY,
+    );
     play_each(
         &rt,
         rt.alloc(),
