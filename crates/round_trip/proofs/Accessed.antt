@@ -1,5 +1,5 @@
 -- What a register write comes to, its answer and the state after it together.
-use Rattle.std.proofs.Common.{◌≡◌, ℕ, ◌<◌, ◌≤◌, Bool, true, false, cond, not, ◌&&◌, ◌||◌, eqb, ◌⊎◌, Some, None, Option, sym, refl, ap, ◌∙◌, subst, inl, inr, arith}
+use Rattle.std.proofs.Common.{◌≡◌, ℕ, ◌<◌, Bool, true, false, ◌&&◌, eqb, Some, None, Option, sym, refl, ap, subst, inl, inr, arith}
 use Rattle.std.proofs.lemmas.Bool.{cases_eq, ne_eqb}
 use Rattle.task_file.specs.declared.registers.Register.{Register}
 use Rattle.task_file.specs.declared.registers.Register.TheVariants as register
@@ -14,7 +14,7 @@ use Rattle.task_file.specs.Commands.{command_of}
 use Rattle.task_file.specs.State.{with_registers, is_busy}
 use Rattle.task_file.specs.Beginning.{begun}
 use Rattle.task_file.specs.Moving.{put}
-use Rattle.controller.specs.Access.{write_refusal, answered, unless_refused, at_register, put_in, begun_by, write_effect, write_answer_of, state_after_write}
+use Rattle.controller.specs.Access.{write_refusal, answered, unless_refused, put_in, begun_by, write_answer_of, state_after_write}
 use Rattle.histories.specs.Runs.{write_as}
 use Rattle.round_trip.specs.Events.{is_done}
 

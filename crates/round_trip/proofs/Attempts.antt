@@ -1,9 +1,7 @@
 -- What a write attempt, a format and a read attempt come to, answer and effect together.
-use Rattle.std.proofs.Common.{◌≡◌, ℕ, ◌+◌, ◌*◌, ◌<◌, ◌≤◌, Bool, true, false, cond, not, ◌&&◌, eqb, ◌⊎◌, List, [], ◌∷◌, ◌++◌, length, get_or, take, drop, set, Some, None, Option, sym, refl, ap, ◌∙◌, subst, ap₂, inl, inr, arith}
-use Rattle.std.proofs.lemmas.Bool.{cases_Bool, cond-true, cond-false, not_from_false}
+use Rattle.std.proofs.Common.{◌≡◌, ℕ, Bool, true, false, cond, not, ◌⊎◌, List, get_or, Some, None, Option, refl, ap, ◌∙◌, inl, inr}
+use Rattle.std.proofs.lemmas.Bool.{cond-true}
 use Rattle.sector.specs.declared.size.SizeCode.{SizeCode}
-use Rattle.sector.specs.Sizes.{bytes_of}
-use Rattle.sector.specs.Bits.{BitSet, inverted, from_bit}
 use Rattle.drive.specs.Asking.{unless}
 use Rattle.drive.specs.declared.buffer.SectorBuffer.{SectorBuffer}
 use Rattle.drive.specs.declared.answers.SectorId.{SectorId}

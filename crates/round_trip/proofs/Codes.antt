@@ -1,5 +1,5 @@
 -- What a delivered sector's difference tells, under either code, where it was written whole and at most one burst is wrong.
-use Rattle.std.proofs.Common.{◌≡◌, ℕ, suc, ◌+◌, ◌*◌, ◌<◌, ◌≤◌, Bool, true, false, ◌⊎◌, List, length, Some, None, Option, sym, refl, ap, ◌∙◌, subst, ap₂, inl, inr, arith}
+use Rattle.std.proofs.Common.{◌≡◌, ℕ, ◌+◌, ◌*◌, ◌<◌, false, List, length, Some, sym, refl, ap, ◌∙◌, subst, ap₂, inr, arith}
 use lib.Bits.{bit_xor}
 use Rattle.sector.specs.declared.size.SizeCode.{SizeCode}
 use Rattle.sector.specs.declared.wrong_bits.Burst.{Burst}
@@ -8,14 +8,14 @@ use Rattle.sector.specs.Bits.{BitSet, digit_of, from_bit, inverted, OneBurst}
 use Rattle.sector.proofs.Inverted.{inverted_none, inverted_back}
 use Rattle.check_code.specs.declared.mode.CheckMode.{CheckMode}
 use Rattle.check_code.specs.declared.mode.CheckMode.TheVariants.{Crc, Ecc}
-use Rattle.check_code.specs.Code.{Code, width, enter, append, fold, crc_code, ecc_code, check_bytes_of, difference_of, digits_of, amount_of}
+use Rattle.check_code.specs.Code.{width, enter, append, ecc_code, check_bytes_of, digits_of, amount_of}
 use Rattle.check_code.specs.Laws.{Sound, damaged_difference}
 use Rattle.check_code.specs.Mode.{code_of}
 use Rattle.check_code.specs.Fold.{fold_zero}
 use Rattle.check_code.specs.LawsLemmas.{whole, inverting, balance_cong}
 use Rattle.check_code.specs.Window.{amount_shows}
 use Rattle.check_code.specs.Sound.{crc_sound, ecc_sound}
-use Rattle.burst.specs.Search.{bits_of, set_of, first_burst, amount}
+use Rattle.burst.specs.Search.{bits_of, set_of, first_burst}
 use Rattle.burst.specs.Mending.{Delivered}
 use Rattle.burst.proofs.Apart.{apart}
 use Rattle.burst.proofs.Restoring.{burst_answer, burst_found}

@@ -1,7 +1,7 @@
 -- The invariant of all histories, with what is noted of them, and that every call keeps it.
-use Rattle.std.proofs.Common.{◌≡◌, ℕ, ◌+◌, ◌<◌, ◌≤◌, Bool, true, false, cond, not, ◌&&◌, ◌||◌, eqb, ◌⊎◌, List, [], ◌∷◌, ◌++◌, length, take, Some, None, Option, sym, refl, ap, ◌∙◌, subst, ap₂, inl, inr, arith}
+use Rattle.std.proofs.Common.{◌≡◌, ℕ, ◌≤◌, Bool, true, false, cond, not, ◌&&◌, ◌||◌, eqb, List, [], ◌∷◌, ◌++◌, length, Option, sym, refl, ap, ◌∙◌, subst, inl, arith}
 use Rattle.std.proofs.lemmas.List.{length-take-le}
-use Rattle.std.proofs.lemmas.Bool.{cases_Bool, cond-true, cond-false, not-true}
+use Rattle.std.proofs.lemmas.Bool.{not-true}
 use Rattle.sector.specs.declared.size.SizeCode.{SizeCode}
 use Rattle.sector.specs.Sizes.{bytes_of}
 use Rattle.check_code.specs.declared.mode.CheckMode.{CheckMode}
@@ -13,8 +13,6 @@ use Rattle.drive.specs.Calls.{write_answer, format_answer, is_formatted}
 use Rattle.task_file.specs.declared.registers.Selection.{Selection}
 use Rattle.task_file.specs.declared.registers.Selection.TheVariants.{Winchester, Floppy, NoDrive}
 use Rattle.task_file.specs.declared.command.Command.{Command}
-use Rattle.task_file.specs.declared.command.Command.TheVariants as command
-use Rattle.task_file.specs.declared.state.WriteJob.{WriteJob}
 use Rattle.task_file.specs.declared.state.Job.{Job}
 use Rattle.task_file.specs.declared.state.Job.TheVariants.{Test, Restore, Seek, Read, Write, Format}
 use Rattle.task_file.specs.declared.state.Phase.{Phase}
@@ -24,24 +22,23 @@ use Rattle.task_file.specs.Registers.{cylinder_of, size_at, mode_at, selected, s
 use Rattle.task_file.specs.Beginning.{begun}
 use Rattle.task_file.specs.Moving.{put}
 use Rattle.task_file.specs.Commands.{command_of}
-use Rattle.task_file.specs.State.{with_intrq, with_registers, ended, failed, is_busy, requests, reset}
-use Rattle.controller.specs.Access.{state_after_read, state_after_write, write_answer_of}
+use Rattle.task_file.specs.State.{is_busy, requests}
 use Rattle.controller.specs.Turns.{Turned, ids_asked, worked, without_drive}
-use Rattle.controller.specs.Model.{ControllerModel, model, with_state, made, seen, turned_in, after_turn, after_reset}
+use Rattle.controller.specs.Model.{ControllerModel, model, with_state, made, seen, turned_in, after_turn}
 use Rattle.histories.specs.declared.call.Call.{Call}
 use Rattle.histories.specs.declared.call.Call.TheVariants as call
-use Rattle.histories.specs.Runs.{answer_to, write_as, called, runs, at}
+use Rattle.histories.specs.Runs.{called, runs, at}
 use Rattle.histories.specs.Working.{InOrder}
 use Rattle.histories.proofs.Accesses.{after_read_access}
 use Rattle.histories.proofs.Orders.{order_call, order_made}
-use Rattle.round_trip.specs.Events.{is_done, accepts, drq_comes_on, Bay, winchester, floppy, same_bay, drive_in, TrackName, SectorName, Event, nothing, sector_written, track_formatted, is_written, write_event, format_event, turn_event_on, turn_event, event_of}
-use Rattle.round_trip.specs.Ledger.{Writing, Ledger, entered, Notes, no_notes, taken_by, forced_by, noted, notes_from, notes_of}
-use Rattle.round_trip.specs.Laws.{track_of, LeftAlone, ADrive}
+use Rattle.round_trip.specs.Events.{Bay, winchester, floppy, same_bay, drive_in, TrackName, SectorName, Event, nothing, sector_written, track_formatted, is_written, turn_event_on, turn_event, event_of}
+use Rattle.round_trip.specs.Ledger.{entered, Notes, no_notes, noted, notes_from, notes_of}
+use Rattle.round_trip.specs.Laws.{track_of, ADrive}
 use Rattle.round_trip.proofs.Sound.{Sound, Buffered, sound_drive}
 use Rattle.round_trip.proofs.Accessed as access
-use Rattle.round_trip.proofs.Kept.{TakenFits, Agrees, Kept, news, no_news, taken_now, kept_same, kept_drawn, kept_put, kept_begun, turn_taken}
-use Rattle.round_trip.proofs.Turned.{Changes, Result, job_event, turned_result, write_event_by}
-use Rattle.round_trip.proofs.Ledgers.{LedgerHeld, track_same, ledger_same, FitsEvent, ledger_after, left_alone}
+use Rattle.round_trip.proofs.Kept.{TakenFits, Kept, news, taken_now, kept_same, kept_drawn, kept_put, kept_begun}
+use Rattle.round_trip.proofs.Turned.{Changes, Result, job_event, turned_result}
+use Rattle.round_trip.proofs.Ledgers.{LedgerHeld, track_same, ledger_same, FitsEvent, ledger_after}
 
 -- The invariant: in order; sound drives; a kept state; and each plain entry of the ledger stands on its track.
 pub record Held (n : Notes) (b : ControllerModel) : Type 0 where

@@ -1,14 +1,12 @@
 -- What holds of the state along every history: the buffer has its room, the bytes taken are the front of it, and what is under way is the command in force.
-use Rattle.std.proofs.Common.{◌≡◌, ℕ, zero, suc, ◌+◌, ◌-◌, ◌*◌, ◌<◌, ◌≤◌, Bool, true, false, cond, not, ◌&&◌, ◌||◌, eqb, ltb, ◌⊎◌, List, [], ◌∷◌, ◌++◌, length, get_or, take, drop, set, replicate, Some, None, Option, sym, refl, ap, ◌∙◌, subst, ap₂, inl, inr, arith, length-append, length-drop, length-set, get_or-set_same}
+use Rattle.std.proofs.Common.{◌≡◌, ℕ, ◌+◌, ◌-◌, ◌<◌, ◌≤◌, Bool, true, false, cond, not, ◌&&◌, ◌||◌, eqb, ltb, ◌⊎◌, List, [], ◌∷◌, ◌++◌, length, take, drop, set, Some, None, Option, sym, refl, ap, ◌∙◌, subst, ap₂, inl, inr, arith, length-append, length-drop, length-set, get_or-set_same}
 use Rattle.std.proofs.lemmas.List.{length-take-le, take_more, take-set}
-use Rattle.std.proofs.lemmas.Bool.{cond_both, cond-true, cond-false, ltb-true, ltb-false, lt-ltb, cases_Bool}
-use Rattle.sector.specs.declared.size.SizeCode.{SizeCode}
+use Rattle.std.proofs.lemmas.Bool.{cond_both, cond-true, cond-false, ltb-false, lt-ltb, cases_Bool}
 use Rattle.sector.specs.declared.wrong_bits.Burst.{Burst}
 use Rattle.sector.specs.Sizes.{bytes_of}
 use Rattle.sector.specs.Bits.{inverted}
 use Rattle.sector.proofs.Sizes.{bytes_most}
 use Rattle.sector.proofs.Inverted.{length-inverted}
-use Rattle.check_code.specs.declared.mode.CheckMode.{CheckMode}
 use Rattle.check_code.specs.Code.{check_bytes_of}
 use Rattle.check_code.specs.Mode.{code_of}
 use Rattle.burst.specs.Search.{set_of, first_burst}
@@ -23,14 +21,11 @@ use Rattle.task_file.specs.declared.command.Command.{Command}
 use Rattle.task_file.specs.declared.command.Command.TheVariants as command
 use Rattle.task_file.specs.declared.command.ReadMode.{ReadMode}
 use Rattle.task_file.specs.declared.command.WriteMode.{WriteMode}
-use Rattle.task_file.specs.declared.failure.SectorError.{SectorError}
 use Rattle.task_file.specs.declared.failure.Failure.{Failure}
-use Rattle.task_file.specs.declared.attempts.Outcome.{Outcome}
 use Rattle.task_file.specs.declared.attempts.Verdict.{Verdict}
 use Rattle.task_file.specs.declared.attempts.Verdict.TheVariants as verdict
 use Rattle.task_file.specs.declared.state.ReadJob.{ReadJob}
 use Rattle.task_file.specs.declared.state.WriteJob.{WriteJob}
-use Rattle.task_file.specs.declared.state.Job.{Job}
 use Rattle.task_file.specs.declared.state.Job.TheVariants.{Test, Restore, Seek, Read, Write, Format}
 use Rattle.task_file.specs.declared.state.Load.{Load}
 use Rattle.task_file.specs.declared.state.Load.TheVariants.{Sector, Track}
@@ -39,13 +34,12 @@ use Rattle.task_file.specs.declared.state.Phase.TheVariants.{Rest, Busy, Offerin
 use Rattle.task_file.specs.declared.state.State.{State}
 use Rattle.task_file.specs.declared.view.DriveView.{DriveView}
 use Rattle.task_file.specs.Registers.{size_at, mode_at, next_sector}
-use Rattle.task_file.specs.Aborting.{aborts, guards}
-use Rattle.task_file.specs.State.{with_registers, with_failure, with_intrq, with_phase, with_buffer, with_corrected, blank_buffer, ended, failed, cleared, requests, is_busy}
+use Rattle.task_file.specs.Aborting.{aborts}
+use Rattle.task_file.specs.State.{with_registers, with_failure, with_phase, with_buffer, with_corrected, blank_buffer, ended, failed, requests}
 use Rattle.task_file.specs.Beginning.{first_phase, registers_for, begun}
-use Rattle.task_file.specs.Moving.{moved_length, load_is_long, with_byte, all_drawn, drawn, checked, filled, put}
-use Rattle.task_file.specs.Attempts.{offering, sector_taken, sector_failure, read_failed, mended_buffer, corrected_by, read_by, read_judged, verdict_of, outcome_of, sector_written, write_judged, format_judged}
-use Rattle.histories.specs.Working.{under_way, Counted}
-use Rattle.histories.proofs.Accesses.{after_read_access}
+use Rattle.task_file.specs.Moving.{moved_length, with_byte, all_drawn, drawn, checked, filled, put}
+use Rattle.task_file.specs.Attempts.{offering, sector_taken, read_failed, mended_buffer, corrected_by, read_by, read_judged, write_judged, format_judged}
+use Rattle.histories.specs.Working.{Counted}
 use Rattle.round_trip.proofs.Sound.{Buffered}
 
 -- ---- the invariant of the state

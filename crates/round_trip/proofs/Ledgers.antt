@@ -1,15 +1,12 @@
 -- The ledger's plain entries stand on the tracks, and an event that changes a track changes the ledger with it.
-use Rattle.std.proofs.Common.{◌≡◌, ℕ, ◌+◌, ◌<◌, ◌≤◌, Bool, true, false, cond, not, ◌&&◌, ◌||◌, eqb, ◌⊎◌, List, [], ◌∷◌, length, get_or, take, set, replicate, Some, None, Option, sym, refl, ap, ◌∙◌, subst, ap₂, inl, inr, arith, length-set, get_or-set_other}
+use Rattle.std.proofs.Common.{◌≡◌, ℕ, Bool, true, false, cond, ◌&&◌, eqb, List, length, get_or, take, replicate, Some, None, sym, refl, ap, ◌∙◌, subst, inl, inr, arith, length-set, get_or-set_other}
 use lib.ListN.{length-replicate}
 use Rattle.std.proofs.lemmas.Bool.{cases_Bool, cond-true, cond-false, and_parts, and_from, eqb-true, eq-eqb}
-use Rattle.sector.specs.declared.size.SizeCode.{SizeCode}
 use Rattle.sector.specs.Sizes.{bytes_of}
-use Rattle.check_code.specs.declared.mode.CheckMode.{CheckMode}
 use Rattle.check_code.specs.Code.{check_bytes_of}
 use Rattle.check_code.specs.Mode.{code_of}
 use Rattle.drive.specs.declared.buffer.SectorBuffer.{SectorBuffer}
-use Rattle.drive.specs.declared.answers.SectorId.{SectorId}
-use Rattle.drive.specs.Model.{Sector, no_sector, slot_of, blank_track, DriveModel, replaced}
+use Rattle.drive.specs.Model.{Sector, no_sector, slot_of, blank_track, replaced}
 use Rattle.task_file.specs.declared.state.State.{State}
 use Rattle.task_file.specs.Attempts.{zero_check}
 use Rattle.controller.specs.Model.{ControllerModel, with_state}

@@ -1,5 +1,5 @@
 -- Drives whose head stands on a cylinder and whose sectors have their length, and that every call keeps them so.
-use Rattle.std.proofs.Common.{◌≡◌, ℕ, zero, suc, ◌+◌, ◌-◌, ◌*◌, ◌<◌, ◌≤◌, Bool, true, false, cond, ◌&&◌, eqb, ltb, ◌⊎◌, List, [], ◌∷◌, ◌++◌, length, get_or, take, drop, set, replicate, Some, None, Option, sym, refl, ap, ◌∙◌, subst, inl, inr, arith, length-append, length-drop, length-set, get_or-set_other, get_or-set_same}
+use Rattle.std.proofs.Common.{◌≡◌, ℕ, zero, suc, ◌+◌, ◌-◌, ◌*◌, ◌<◌, ◌≤◌, Bool, ◌&&◌, eqb, ltb, List, [], ◌∷◌, length, get_or, take, drop, set, Some, None, Option, sym, refl, ap, ◌∙◌, subst, inl, inr, arith, length-append, length-drop, length-set, get_or-set_other, get_or-set_same}
 use lib.ListN.{length-replicate}
 use Rattle.std.proofs.lemmas.List.{length-take-le}
 use Rattle.std.proofs.lemmas.Bool.{cond_both, cases_eq, and_parts, ltb-true}
@@ -11,8 +11,8 @@ use Rattle.sector.proofs.Sizes.{bytes_most}
 use Rattle.sector.proofs.Inverted.{length-inverted}
 use Rattle.drive.specs.declared.buffer.SectorBuffer.{SectorBuffer}
 use Rattle.drive.specs.declared.answers.SectorId.{SectorId}
-use Rattle.drive.specs.Model.{Sector, no_sector, slot_of, blank_track, Showing, no_id, no_data_mark, wrong_bits, DriveModel, at_cylinder, with_track, replaced, track, sector}
-use Rattle.drive.specs.Bounds.{Whole, Bounded}
+use Rattle.drive.specs.Model.{Sector, no_sector, slot_of, blank_track, Showing, no_id, no_data_mark, wrong_bits, DriveModel, at_cylinder, with_track, replaced, track}
+use Rattle.drive.specs.Bounds.{Whole}
 use Rattle.drive.specs.Calls.{on_slot, track_under, shown, attempted, delivered, attempted_at, stepped_in, stepped_out, handed_over, after_read, written, after_write, after_format}
 use Rattle.controller.specs.Turns.{nearer}
 use Rattle.histories.proofs.Drives.{after_read_all}

@@ -1,31 +1,25 @@
 -- A turn of a job on a drive: the drive stays sound, the state kept, and the tracks change as the event says.
-use Rattle.std.proofs.Common.{◌≡◌, ℕ, ◌+◌, ◌<◌, ◌≤◌, Bool, true, false, cond, not, ◌&&◌, ◌||◌, eqb, ltb, ◌⊎◌, List, [], ◌∷◌, length, get_or, take, Some, None, Option, sym, refl, ap, ◌∙◌, subst, ap₂, inl, inr, arith}
-use Rattle.std.proofs.lemmas.Bool.{cond_both, cases_Bool, eqb-true}
-use Rattle.sector.specs.declared.size.SizeCode.{SizeCode}
+use Rattle.std.proofs.Common.{◌≡◌, ℕ, Bool, true, false, cond, not, ◌&&◌, eqb, ltb, List, [], take, Some, Option, sym, refl, ap, subst, inl, inr}
+use Rattle.std.proofs.lemmas.Bool.{cond_both, eqb-true}
 use Rattle.sector.specs.Sizes.{bytes_of}
-use Rattle.check_code.specs.declared.mode.CheckMode.{CheckMode}
 use Rattle.drive.specs.declared.buffer.SectorBuffer.{SectorBuffer}
-use Rattle.drive.specs.declared.answers.SectorId.{SectorId}
 use Rattle.drive.specs.declared.answers.Writing.{Writing}
-use Rattle.drive.specs.Model.{Sector, no_sector, slot_of, blank_track, DriveModel, at_cylinder, with_track, replaced, track}
-use Rattle.drive.specs.Calls.{track_under, attempted_at, stepped_in, stepped_out, read_answer, handed_over, after_read, write_answer, written, after_write, format_answer, is_formatted, after_format}
-use Rattle.task_file.specs.declared.registers.Registers.{Registers}
+use Rattle.drive.specs.Model.{slot_of, blank_track, DriveModel, with_track, replaced, track}
+use Rattle.drive.specs.Calls.{attempted_at, stepped_in, stepped_out, read_answer, handed_over, write_answer, written, format_answer, is_formatted}
 use Rattle.task_file.specs.declared.command.Command.{Command}
 use Rattle.task_file.specs.declared.command.Command.TheVariants as command
-use Rattle.task_file.specs.declared.failure.Failure.TheVariants as failure
 use Rattle.task_file.specs.declared.state.ReadJob.{ReadJob}
 use Rattle.task_file.specs.declared.state.WriteJob.{WriteJob}
 use Rattle.task_file.specs.declared.state.Job.{Job}
 use Rattle.task_file.specs.declared.state.Job.TheVariants.{Test, Restore, Seek, Read, Write, Format}
-use Rattle.task_file.specs.declared.state.Phase.{Phase}
-use Rattle.task_file.specs.declared.state.Phase.TheVariants.{Rest, Busy, Offering, Taking}
+use Rattle.task_file.specs.declared.state.Phase.TheVariants.{Busy}
 use Rattle.task_file.specs.declared.state.State.{State}
 use Rattle.task_file.specs.Registers.{cylinder_of, size_at, mode_at}
-use Rattle.task_file.specs.State.{with_phase, with_buffer, ended, failed, requests}
+use Rattle.task_file.specs.State.{with_phase, with_buffer, ended, requests}
 use Rattle.task_file.specs.Attempts.{zero_check}
 use Rattle.controller.specs.Turns.{Turned, turned, restore_turn, nearer, once_there, read_act, write_act, format_act, ids_asked, worked}
 use Rattle.histories.proofs.Drives.{after_read_all, stepped_in_all, stepped_out_all}
-use Rattle.round_trip.specs.Events.{Bay, TrackName, SectorName, Event, nothing, sector_written, track_formatted, is_written}
+use Rattle.round_trip.specs.Events.{Bay, Event, nothing, sector_written, track_formatted, is_written}
 use Rattle.round_trip.proofs.Tracks.{rewritten_at}
 use Rattle.round_trip.proofs.Attempts as attempt
 use Rattle.round_trip.proofs.Sound.{Sound, Buffered, sound_out, sound_nearer, sound_read, sound_write, sound_format, handed_buffered}

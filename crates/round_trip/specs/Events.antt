@@ -1,5 +1,5 @@
 -- What a call does that a host, or a reader of the disks, can tell.
-use Rattle.std.specs.Prelude.{ℕ, Bool, true, false, cond, not, ◌&&◌, ◌||◌, List, [], ◌∷◌, ◌++◌, is_some, Some, None, Option, ◌==◌}
+use Rattle.std.specs.Prelude.{ℕ, Bool, true, false, cond, not, ◌&&◌, ◌||◌, List, is_some, ◌==◌}
 use Rattle.sector.specs.declared.size.SizeCode.{SizeCode}
 use Rattle.sector.specs.Sizes.{number_of}
 use Rattle.check_code.specs.declared.mode.CheckMode.{CheckMode}
@@ -11,13 +11,11 @@ use Rattle.drive.specs.Calls.{write_answer, format_answer, is_formatted}
 use Rattle.task_file.specs.declared.registers.Registers.{Registers}
 use Rattle.task_file.specs.declared.registers.Selection.{Selection}
 use Rattle.task_file.specs.declared.registers.Selection.TheVariants.{Winchester, Floppy, NoDrive}
-use Rattle.task_file.specs.declared.command.Command.{Command}
 use Rattle.task_file.specs.declared.state.WriteJob.{WriteJob}
 use Rattle.task_file.specs.declared.state.Job.TheVariants.{Test, Restore, Seek, Read, Write, Format}
 use Rattle.task_file.specs.declared.state.Phase.{Phase}
 use Rattle.task_file.specs.declared.state.Phase.TheVariants.{Rest, Busy, Offering, Taking}
 use Rattle.task_file.specs.Registers.{cylinder_of, size_at, mode_at, selected}
-use Rattle.task_file.specs.Commands.{command_of}
 use Rattle.task_file.specs.State.{is_busy, requests}
 use Rattle.controller.specs.Turns.{ids_asked}
 use Rattle.controller.specs.Model.{ControllerModel}

@@ -4,7 +4,7 @@ use Rattle.sector.specs.Sizes.{bytes_of}
 use Rattle.sector.specs.Bits.{OneBurst}
 use Rattle.check_code.specs.declared.mode.CheckMode.{CheckMode}
 use Rattle.check_code.specs.declared.mode.CheckMode.TheVariants.{Crc, Ecc}
-use Rattle.check_code.specs.Code.{Code, width}
+use Rattle.check_code.specs.Code.{width}
 use Rattle.check_code.specs.Mode.{code_of}
 use Rattle.burst.specs.Mending.{AtMostOneBurst}
 use Rattle.drive.specs.Model.{Sector, no_sector, slot_of, Showing, no_id, no_data_mark, wrong_bits, DriveModel}
@@ -20,7 +20,7 @@ use Rattle.histories.specs.declared.call.Call.TheVariants as call
 use Rattle.histories.specs.declared.call.Answer.{Answer}
 use Rattle.histories.specs.declared.call.Answer.TheVariants.{Byte, Done, Refused}
 use Rattle.histories.specs.Runs.{answer_to, called, runs, at}
-use Rattle.round_trip.specs.Events.{busy, drq, error, accepts, drq_comes_on, busy_comes_on, Bay, winchester, floppy, drive_in, TrackName, SectorName, same_track, sector_named, Event, nothing, sector_written, track_formatted, event_of}
+use Rattle.round_trip.specs.Events.{busy, drq, error, accepts, drq_comes_on, busy_comes_on, winchester, floppy, drive_in, TrackName, SectorName, same_track, sector_named, Event, nothing, sector_written, track_formatted, event_of}
 use Rattle.round_trip.specs.Ledger.{Writing, Notes, notes_of}
 
 -- ---- what attempts show

@@ -1,5 +1,5 @@
 -- The last writing of each sector: what follows from the drives at the making, the calls and their arguments alone.
-use Rattle.std.specs.Prelude.{◌≡◌, ℕ, Bool, true, false, cond, ◌&&◌, List, [], ◌∷◌, ◌++◌, replicate, is_some, Some, None, Option, ◌==◌, nat_eq}
+use Rattle.std.specs.Prelude.{ℕ, Bool, true, cond, ◌&&◌, List, [], ◌∷◌, ◌++◌, replicate, is_some, Some, None, Option, ◌==◌, nat_eq}
 use Rattle.sector.specs.Sizes.{bytes_of}
 use Rattle.check_code.specs.declared.mode.CheckMode.{CheckMode}
 use Rattle.drive.specs.declared.answers.SectorId.{SectorId}
@@ -11,7 +11,7 @@ use Rattle.controller.specs.Model.{ControllerModel, made}
 use Rattle.histories.specs.declared.call.Call.{Call}
 use Rattle.histories.specs.declared.call.Call.TheVariants as call
 use Rattle.histories.specs.Runs.{answer_to, called}
-use Rattle.round_trip.specs.Events.{is_done, accepts, drq_comes_on, TrackName, SectorName, same_track, same_size, same_sector, Event, nothing, sector_written, track_formatted, event_of}
+use Rattle.round_trip.specs.Events.{is_done, accepts, drq_comes_on, SectorName, same_track, same_size, same_sector, Event, nothing, sector_written, track_formatted, event_of}
 
 -- a last writing: the bytes, the check mode, and whether plain (a long one has the host's check bytes among its bytes)
 pub record Writing : Type 0 where
