@@ -1,6 +1,5 @@
 -- What holds of every drive.
-use Rattle.std.specs.Prelude.{◌≡◌, ℕ, ◌<◌, ◌≤◌, List, [], length, slice_index}
-use Rattle.std.specs.List.{AllByRecursion as All}
+use Rattle.std.specs.Prelude.{All, ◌≡◌, ℕ, ◌<◌, ◌≤◌, List, [], length, slice_index}
 use Rattle.sector.specs.Sizes.{bytes_of}
 use Rattle.drive.specs.Model.{Sector, DriveModel}
 

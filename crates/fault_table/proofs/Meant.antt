@@ -1,6 +1,6 @@
 -- The sector meant is a whole one of the size asked for.
-use Rattle.std.proofs.Common.{◌≡◌, ℕ, suc, ◌+◌, ◌-◌, ◌≤◌, Bool, true, cond, eqb, List, [], ◌∷◌, length, get_or, Some, sym, refl, ap, ◌∙◌, subst, ⊎_elim, arith}
-use Rattle.std.specs.List.{AllByRecursion as All}
+use Rattle.std.proofs.Common.{All, ◌≡◌, ℕ, suc, ◌+◌, ◌-◌, ◌≤◌, Bool, true, cond, eqb, List, [], ◌∷◌, length, get_or, Some, sym, refl, ap, ◌∙◌, subst, ⊎_elim, arith}
+use Rattle.std.proofs.lemmas.List.Elements.{All-head, All-tail}
 use Rattle.std.proofs.lemmas.Bool.{cases_Bool, and_parts, eqb-true, cond-true, cond-false}
 use Rattle.sector.specs.Sizes.{bytes_of, number_of}
 use Rattle.sector.specs.declared.size.SizeCode.{SizeCode}
@@ -26,10 +26,10 @@ first_found test P d i (x ∷ xs) k all e =
     record {
       from = omega arith;
       passes = subst (λ (m : ℕ). test (get_or (x ∷ xs) m d) ≡ true) z on;
-      holds = subst (λ (m : ℕ). P (get_or (x ∷ xs) m d)) z all.0;
+      holds = subst (λ (m : ℕ). P (get_or (x ∷ xs) m d)) z (All-head P x xs all);
     })
     (λ off.
-    let r = first_found test P d (i + 1) xs k all.1 (sym (cond-false (test x) (Some i) (first_from test (i + 1) xs) off) ∙ e) in
+    let r = first_found test P d (i + 1) xs k (All-tail P x xs all) (sym (cond-false (test x) (Some i) (first_from test (i + 1) xs) off) ∙ e) in
     let later : i + 1 ≤ k = r.from in
     let s : suc (k - (i + 1)) ≡ k - i = omega arith in
     record {

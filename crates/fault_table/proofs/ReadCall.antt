@@ -1,6 +1,5 @@
 -- What a read under the entries answers, hands over and leaves.
-use Rattle.std.proofs.Common.{◌≡◌, ℕ, true, false, List, Some, None, Option, sym, refl, ap, ◌∙◌, ap₂}
-use Rattle.std.specs.List.{AllByRecursion as All}
+use Rattle.std.proofs.Common.{All, ◌≡◌, ℕ, true, false, List, Some, None, Option, sym, refl, ap, ◌∙◌, ap₂}
 use Rattle.sector.specs.declared.size.SizeCode.{SizeCode}
 use Rattle.drive.specs.declared.buffer.SectorBuffer.{SectorBuffer}
 use Rattle.drive.specs.declared.answers.Reading.{Reading}

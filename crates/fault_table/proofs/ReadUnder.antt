@@ -1,6 +1,5 @@
 -- What a read under the entries answers and hands over.
-use Rattle.std.proofs.Common.{◌≡◌, ℕ, ◌*◌, true, false, cond, List, ◌++◌, length, get_or, take, drop, Some, None, Option, sym, refl, ap, ◌∙◌, ap₂}
-use Rattle.std.specs.List.{AllByRecursion as All}
+use Rattle.std.proofs.Common.{All, ◌≡◌, ℕ, ◌*◌, true, false, cond, List, ◌++◌, length, get_or, take, drop, Some, None, Option, sym, refl, ap, ◌∙◌, ap₂}
 use Rattle.std.proofs.lemmas.List.{take_at, drop_at}
 use Rattle.sector.specs.Bits.{BitSet, inverted, from_bit, both_of}
 use Rattle.sector.specs.Sizes.{bytes_of}

@@ -1,9 +1,8 @@
 -- What holds of every image.
-use Rattle.std.specs.Prelude.{◌≡◌, ℕ, ◌+◌, ◌*◌, ◌<◌, ◌≤◌, true, ◌&&◌, List, [], length, nat_lt}
+use Rattle.std.specs.Prelude.{All, ◌≡◌, ℕ, ◌+◌, ◌*◌, ◌<◌, ◌≤◌, true, ◌&&◌, List, [], length, nat_lt}
 use Rattle.std.proofs.Common.{sym, subst, ⊎_elim, arith}
-use Rattle.std.specs.List.{AllByRecursion as All}
 use Rattle.std.proofs.lemmas.List.FromFn.{get_or-map-range_with_len, length-map-range_with_len}
-use Rattle.std.proofs.ByRecursion.{All-from_get_or}
+use Rattle.std.proofs.lemmas.List.Elements.{All-from_get_or, All-nil}
 use Rattle.std.proofs.lemmas.List.{get_or_past, length-take, length-drop}
 use Rattle.std.proofs.lemmas.Bool.{cond_both, cases_lt}
 use Rattle.sector.specs.Sizes.{bytes_of}
@@ -49,7 +48,7 @@ track_whole r b =
     (λ i h.
     let l : i < count_in r = omega (arith, length-map-range_with_len (sector_at r) 0 (count_in r)) in
     subst Whole (sym (get_or-map-range_with_len (sector_at r) 0 (count_in r) i i no_sector l (omega arith))) (sector_whole r i b e l)))
-    (λ _. tt)
+    (λ _. All-nil Whole)
 
 track_few : (r : List ℕ) → length (track_in r) ≤ 64
 track_few r =
@@ -66,7 +65,7 @@ store_bounded s most few-c few-h =
       few_heads = few-h;
       inside = s.inside;
       few_sectors = λ c h. cond_both (nat_lt c s.cylinders && nat_lt h s.heads) _ [] (λ ss. length ss ≤ 64) (λ _. track_few (record_of s.heads s.capacity c h s.memory.items)) (λ _. omega arith);
-      whole_sectors = λ c h. cond_both (nat_lt c s.cylinders && nat_lt h s.heads) _ [] (All Whole) (λ _. track_whole (record_of s.heads s.capacity c h s.memory.items) (bytes_part (record_start s.heads s.capacity c h) (386 + s.capacity) s.memory.items s.bytes)) (λ _. tt);
+      whole_sectors = λ c h. cond_both (nat_lt c s.cylinders && nat_lt h s.heads) _ [] (All Whole) (λ _. track_whole (record_of s.heads s.capacity c h s.memory.items) (bytes_part (record_start s.heads s.capacity c h) (386 + s.capacity) s.memory.items s.bytes)) (λ _. All-nil Whole);
       past_cylinders = λ c h l. track_past_cylinders s.cylinders s.heads s.capacity s.memory.items c h l;
       past_heads = λ c h l. track_past_heads s.cylinders s.heads s.capacity s.memory.items c h l;
     }

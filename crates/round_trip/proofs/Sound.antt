@@ -1,9 +1,8 @@
 -- Drives whose head stands on a cylinder and whose sectors have their length, and that every call keeps them so.
-use Rattle.std.proofs.Common.{◌≡◌, ℕ, zero, suc, ◌+◌, ◌-◌, ◌*◌, ◌<◌, ◌≤◌, Bool, ◌&&◌, eqb, ltb, List, [], ◌∷◌, length, get_or, take, drop, set, Some, None, Option, sym, refl, ap, ◌∙◌, subst, inl, inr, arith, length-append, length-drop, length-set, get_or-set_other, get_or-set_same}
+use Rattle.std.proofs.Common.{All, ◌≡◌, ℕ, ◌+◌, ◌-◌, ◌*◌, ◌<◌, ◌≤◌, Bool, ◌&&◌, eqb, ltb, List, length, get_or, take, drop, set, Some, None, Option, sym, refl, ap, ◌∙◌, subst, inl, inr, arith, length-append, length-drop, length-set, get_or-set_other, get_or-set_same}
 use lib.ListN.{length-replicate}
 use Rattle.std.proofs.lemmas.List.{length-take-le}
 use Rattle.std.proofs.lemmas.Bool.{cond_both, cases_eq, and_parts, ltb-true}
-use Rattle.std.specs.List.{AllByRecursion as All}
 use Rattle.sector.specs.declared.size.SizeCode.{SizeCode}
 use Rattle.sector.specs.Sizes.{bytes_of}
 use Rattle.sector.specs.Bits.{BitSet, inverted, from_bit}
@@ -38,9 +37,7 @@ pub record Buffered (b : SectorBuffer) : Type 0 where
 
 -- ---- at the making
 all_at : (ss : List Sector) → All Whole ss → SizedTrack ss
-all_at [] a k h = absurd (omega arith)
-all_at (s ∷ ss) a zero h = (a.0.bytes_long, a.0.check_long)
-all_at (s ∷ ss) a (suc k) h = all_at ss a.1 k (omega arith)
+all_at ss whole k h = let w : Whole (get_or ss k no_sector) = whole k no_sector h in (w.bytes_long, w.check_long)
 
 pub sound_drive : (d : DriveModel) → ADrive d → Sound d
 sound_drive d a = record { inside = a.inside; few = a.few_cylinders; sized = λ c h. all_at (d.track c h) (a.whole_sectors c h) }
