@@ -12,7 +12,7 @@ use Rattle.check_code.specs.Register.{below_lt, steps_add, steps_more, steps_sam
 use Rattle.check_code.specs.LawsLemmas.{balance_cong}
 use Rattle.check_code.specs.Window.{clip, clip_lt, pattern_fits, padded, amount_below}
 use Rattle.check_code.specs.Sound.{ecc_sound}
-use Rattle.burst.specs.Search.{bits_of, amount, first_of, candidate, first_burst, NoneFits, Fits}
+use Rattle.burst.specs.Search.{bits_of, amount, first_below, candidate, first_burst, NoneFits, Fits}
 use Rattle.burst.proofs.Apart.{apart}
 use Rattle.burst.proofs.First.{some_none, some_same, first_none, first_more, first_found, none_below, found_at}
 use Rattle.burst.proofs.Patterns.{mirror, marked_burst, marked_starts, marked-pattern, marked_cut, marked_beyond, named}
@@ -48,7 +48,7 @@ module _ (size : SizeCode) (d f half : ℕ) where
 
 -- a pattern that reaches past the end stands for a smaller one, which came before
 past_end : (size : SizeCode) (d f half : ℕ) → f < bits_of size → half < 16 → 2 ^ (bits_of size - f) ≤ 2 * half + 1
-    → first_of (candidate size d f) half ≡ None → amount size (marked f (2 * half + 1)) ≡ d → ⊥
+    → first_below (candidate size d f) half ≡ None → amount size (marked f (2 * half + 1)) ≡ d → ⊥
 past_end size d f half inside small long passed e =
     let p : ℕ = 2 * half + 1 in
     let room : ℕ = bits_of size - f in
@@ -113,17 +113,17 @@ back_more size d f register inside back next small e =
     )
 
 -- ---- what the loops know: no candidate so far
-pub passed_none : (size : SizeCode) (d f : ℕ) → first_of (candidate size d f) 0 ≡ None
+pub passed_none : (size : SizeCode) (d f : ℕ) → first_below (candidate size d f) 0 ≡ None
 passed_none size d f = first_none (candidate size d f)
 
-pub before_none : (size : SizeCode) (d : ℕ) → first_of (λ first. first_of (candidate size d first) 16) 0 ≡ None
-before_none size d = first_none (λ first. first_of (candidate size d first) 16)
+pub before_none : (size : SizeCode) (d : ℕ) → first_below (λ first. first_below (candidate size d first) 16) 0 ≡ None
+before_none size d = first_none (λ first. first_below (candidate size d first) 16)
 
 abbrev pub Passed : SizeCode → ℕ → ℕ → ℕ → Type 0
-Passed size d f half = first_of (candidate size d f) half ≡ None
+Passed size d f half = first_below (candidate size d f) half ≡ None
 
 abbrev pub Before : SizeCode → ℕ → ℕ → Type 0
-Before size d f = first_of (λ first. first_of (candidate size d first) 16) f ≡ None
+Before size d f = first_below (λ first. first_below (candidate size d first) 16) f ≡ None
 
 module _ (size : SizeCode) (d f register : ℕ) (inside : f < bits_of size) (dl : d < 2 ^ 32) (back : Back size d f register) where
   pub passed_more : (half : ℕ) → half < 16 → Passed size d f half
@@ -140,12 +140,12 @@ module _ (size : SizeCode) (d f register : ℕ) (inside : f < bits_of size) (dl 
       → register ≡ mirror (2 * half + 1) → 2 * half + 1 < 2 ^ (bits_of size - f) → first_burst size d ≡ Some (burst_at size d f half)
   unfolding first_burst
   found half small passed before e ends =
-      first_found (λ first. first_of (candidate size d first) 16) f (bits_of size) (burst_at size d f half) inside before
+      first_found (λ first. first_below (candidate size d first) 16) f (bits_of size) (burst_at size d f half) inside before
       (first_found (candidate size d f) half 16 (burst_at size d f half) small passed
       (candidate_hit size d f half (hit size d f register inside dl back (2 * half + 1) (omega arith) (omega arith) ends e)))
 
 pub before_more : (size : SizeCode) (d f : ℕ) → Before size d f → Passed size d f 16 → Before size d (f + 1)
-before_more size d f before passed = first_more (λ first. first_of (candidate size d first) 16) f before passed
+before_more size d f before passed = first_more (λ first. first_below (candidate size d first) 16) f before passed
 
 pub not_found : (size : SizeCode) (d : ℕ) → Before size d (bits_of size) → first_burst size d ≡ None
 unfolding first_burst
@@ -161,14 +161,14 @@ none_fits size d e w b h =
     let odd = n.odd in
     let small = n.small in
     let whole : 2 * (p / 2) + 1 ≡ p = omega arith in
-    let none : first_of (candidate size d f) 16 ≡ None = none_below (λ first. first_of (candidate size d first) 16) (bits_of size) e f n.inside in
+    let none : first_below (candidate size d f) 16 ≡ None = none_below (λ first. first_below (candidate size d first) 16) (bits_of size) e f n.inside in
     candidate_none size d f (p / 2) (none_below (candidate size d f) 16 none (p / 2) (omega arith))
     (ap (λ m. amount size (marked f m)) whole ∙ amount_cong size (marked f p) w n.is ∙ h)
 
 pub fits : (size : SizeCode) (d : ℕ) (b : Burst) → first_burst size d ≡ Some b → Fits size d b
 unfolding first_burst
 fits size d b e =
-    let at = found_at (λ first. first_of (candidate size d first) 16) (bits_of size) b e in
+    let at = found_at (λ first. first_below (candidate size d first) 16) (bits_of size) b e in
     let f : ℕ = at.0 in
     let inside : f < bits_of size = at.1 in
     let in_row = found_at (candidate size d f) 16 b at.3 in

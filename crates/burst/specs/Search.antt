@@ -24,9 +24,9 @@ or_else (Some x) later = Some x
 or_else None later = later
 
 -- the first answer that f gives below n
-unfoldable pub first_of : {A : Type 0} → (ℕ → Option A) → ℕ → Option A
-first_of f zero = None
-first_of f (suc n) = or_else (first_of f n) (f n)
+unfoldable pub first_below : {A : Type 0} → (ℕ → Option A) → ℕ → Option A
+first_below f zero = None
+first_below f (suc n) = or_else (first_below f n) (f n)
 
 -- the burst with this first bit and the odd pattern 2 · half + 1, where its amount is the difference
 abbrev pub candidate : SizeCode → ℕ → ℕ → ℕ → Option Burst
@@ -35,7 +35,7 @@ candidate size difference first half =
 
 -- the burst with the smallest first bit, and then the smallest pattern below 32, whose amount is the difference
 unfoldable pub first_burst : SizeCode → ℕ → Option Burst
-first_burst size difference = first_of (λ first. first_of (candidate size difference first) 16) (bits_of size)
+first_burst size difference = first_below (λ first. first_below (candidate size difference first) 16) (bits_of size)
 
 -- no burst of a sector has this amount
 abbrev pub NoneFits : SizeCode → ℕ → Type 0

@@ -1,6 +1,6 @@
 // One interface for check codes, and what is computed through it.
 ghost use Rattle.std.specs.Prelude.{◌≡◌, ◌-◌, ◌*◌, ◌^◌};
-ghost use Rattle.check_code.specs.Code.{Code, width as width_of_lem, remainder_of, check_bytes_of, delivered_check, difference_of};
+ghost use Rattle.check_code.specs.Code.{Code, width as width_of, remainder_of, check_bytes_of, delivered_check, difference_of};
 ghost use Rattle.check_code.specs.Laws.{Sound, WrittenWhole, Inverting, Combining, BurstShows};
 ghost use Rattle.check_code.specs.Aligned.{aligned, steps};
 
@@ -10,7 +10,7 @@ pub trait CheckCode {
 
     // How many bits the register has.
     fn width() -> u32
-        ensures { result ≡ width_of_lem code };
+        ensures { result ≡ width_of code };
 
     // What the register holds at the start.
     fn start() -> u32
@@ -33,7 +33,7 @@ pub trait CheckCode {
 
 // The remainder after more bytes, from a remembered one on, at the top of 32 bits.
 fn register_after<C: CheckCode>(from: u32, bytes: &[u8]) -> u32
-    ensures { result ≡ remainder_of C.CheckCode.code from bytes.now * 2 ^ (32 - width_of_lem C.CheckCode.code) }
+    ensures { result ≡ remainder_of C.CheckCode.code from bytes.now * 2 ^ (32 - width_of C.CheckCode.code) }
 {
     let mut register = from << (32 - C::width());
     for byte in bytes {

@@ -4,7 +4,7 @@ ghost use Rattle.drive.specs.declared.bay.Bay.TheVariants.{Fitted, Empty};
 ghost use Rattle.image.specs.Image.{image_model, refusal_of, winchester_most};
 ghost use Rattle.image.specs.Store.{store_model};
 ghost use Rattle.image.specs.Holds.{store_bounded};
-ghost use Rattle.std.proofs.Common.{rules, arith};
+ghost use Rattle.std.proofs.Common.{rules};
 
 use super::fitting::Fitting;
 use super::store::TrackStore;
@@ -68,7 +68,7 @@ impl Drive for WinchesterImage {
 
     ghost meaning = { λ d. store_model d.store };
 
-    ghost limits = { first_of (Prim.search rules, Prim.grind (arith, Self.row.coded.inj)) };
+    ghost limits = { Prim.search rules };
 
     ghost bounded = { λ d. store_bounded d.store winchester_most d.few.0 d.few.1 };
 

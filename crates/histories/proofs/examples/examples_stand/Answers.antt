@@ -1,6 +1,6 @@
 -- The worked examples, computed from the definitions.
 use Rattle.std.proofs.Common.{refl}
-use Rattle.burst.specs.Search.{first_of, first_burst}
+use Rattle.burst.specs.Search.{first_below, first_burst}
 use Rattle.check_code.proofs.Examples.{examples}
 use Rattle.drive.specs.Calls.{stepped_in, stepped_out, read_answer, handed_over, after_read, format_answer, after_format}
 use Rattle.task_file.specs.Commands.{command_of}
@@ -14,7 +14,7 @@ use Rattle.histories.specs.Runs.{runs}
 use Rattle.histories.proofs.examples.examples_stand.Goals as goal
 
 pub returns : goal.returns
-unfolding runs command_of aborts begun drawn put read_judged read_answer_of state_after_read write_answer_of state_after_write worked stepped_in stepped_out read_answer handed_over after_read format_answer after_format first_of first_burst
+unfolding runs command_of aborts begun drawn put read_judged read_answer_of state_after_read write_answer_of state_after_write worked stepped_in stepped_out read_answer handed_over after_read format_answer after_format first_below first_burst
 returns c =
     record {
       codes = examples;
