@@ -94,6 +94,7 @@ impl<W: Drive, F: Drive> Controller<W, F> {
     }
 
     // A register read.
+    #[tactic(auto, unfolding(crate::specs::Access::read_answer_of, crate::specs::Access::state_after_read))]
     pub fn read_register(&mut self, number: u8) -> Result<u8, Refusal>
         ensures answer { result ≡ read_answered (model_of W.Drive.meaning F.Drive.meaning self.old) number }
         ensures after { model_of W.Drive.meaning F.Drive.meaning self.new ≡ after_register_read (model_of W.Drive.meaning F.Drive.meaning self.old) number }
@@ -125,6 +126,7 @@ impl<W: Drive, F: Drive> Controller<W, F> {
     }
 
     // A register write.
+    #[tactic(auto, unfolding(crate::specs::Access::write_answer_of, crate::specs::Access::state_after_write))]
     pub fn write_register(&mut self, number: u8, byte: u8) -> Result<(), Refusal>
         ensures answer { result ≡ write_answered (model_of W.Drive.meaning F.Drive.meaning self.old) number byte }
         ensures after { model_of W.Drive.meaning F.Drive.meaning self.new ≡ after_register_write (model_of W.Drive.meaning F.Drive.meaning self.old) number byte }

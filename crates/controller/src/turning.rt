@@ -70,6 +70,7 @@ fn format_track<D: Drive>(state: &mut State, drive: &mut D, head: u8)
 }
 
 // One turn of a job under a head of the selected drive: one step, or one attempt, or one format.
+#[tactic(auto, unfolding(crate::specs::Turns::worked))]
 pub fn work<D: Drive>(state: &mut State, drive: &mut D, job: Job, head: u8)
     ensures { turned state.new (D.Drive.meaning drive.new) ≡ worked job state.old head (D.Drive.meaning drive.old) }
 {
