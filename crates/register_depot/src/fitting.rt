@@ -58,7 +58,7 @@ pub fn asked_for(rt: &HostRuntime) -> anyhow::Result<Measures> {
         });
     };
     let (Some(heads), Some(capacity)) = (args.next(), args.next()) else {
-        return Err(anyhow!("usage: depot [CYLINDERS HEADS CAPACITY] < SHEET"));
+        return Err(anyhow!("usage: register_depot [CYLINDERS HEADS CAPACITY] < SHEET"));
     };
     Ok(Measures {
         cylinders: cylinders.as_str().parse::<u16>()?,
