@@ -3,8 +3,9 @@
 
 usage: python3 tools/respell_names.py [FOLDER]     once, at the top, after the toolchain's own port script
 
-The table respelled_names.txt beside it has a line for each name: the old spelling and the new one. Code and clauses are
-turned name by name; in comments and pages only what stands between backticks is. Rust's own names keep their spelling.
+The table respelled_names.txt beside it has a line for each name: the old spelling and the new one, and before them a crate
+where the name is turned in that crate alone, since it means something else elsewhere. Code and clauses are turned name by
+name; in comments and pages only what stands between backticks is. Rust's own names keep their spelling.
 """
 import os
 import re
@@ -16,8 +17,13 @@ INSIDE = r"[\w'\-]"
 
 
 def table():
+    """The names that are turned everywhere, by "", and those of single crates, by the crate."""
+    names = {"": {}}
     with open(os.path.join(HERE, "respelled_names.txt"), encoding="utf-8") as f:
-        return dict(line.split() for line in f if line.strip())
+        for line in f:
+            *crate, old, new = line.split()
+            names.setdefault(crate[0] if crate else "", {})[old] = new
+    return names
 
 
 def turner(names):
@@ -52,7 +58,9 @@ def turned(path, text, turn):
 
 def main(argv):
     top = argv[0] if argv else "."
-    turn = turner(table())
+    names = table()
+    everywhere = turner(names[""])
+    within = {crate: turner(names[""] | own) for crate, own in names.items() if crate}
     count = 0
     for part in ("crates", "docs", "README.md"):
         start = os.path.join(top, part)
@@ -63,6 +71,8 @@ def main(argv):
                 path = os.path.join(folder, name)
                 with open(path, encoding="utf-8") as f:
                     old = f.read()
+                parts = os.path.relpath(path, top).split(os.sep)
+                turn = within.get(parts[1], everywhere) if part == "crates" else everywhere
                 new = turned(path, old, turn)
                 if new != old:
                     with open(path, "w", encoding="utf-8") as f:
