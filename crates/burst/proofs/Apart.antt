@@ -7,9 +7,9 @@ use Rattle.sector.proofs.Sizes.{bytes_most}
 use Rattle.check_code.specs.Code.{Code, width, step, fold, amount_of, ecc_code}
 use Rattle.check_code.specs.Laws.{Sound}
 use Rattle.check_code.specs.Aligned.{steps}
-use Rattle.check_code.specs.Fold.{digits_same}
-use Rattle.check_code.specs.Register.{below, steps_more, steps_add, steps_lt, steps_same}
-use Rattle.check_code.specs.Window.{Starts, starts, clip, clip_in, digit_same, pattern, pattern_lt, pattern_ge, pattern_fits, padded, amount_below, amount_shows}
+use Rattle.check_code.proofs.Fold.{digits_same}
+use Rattle.check_code.proofs.Register.{below, steps_more, steps_add, steps_lt, steps_same}
+use Rattle.check_code.proofs.Window.{Starts, starts, clip, clip_in, digit_same, pattern, pattern_lt, pattern_ge, pattern_fits, padded, amount_below, amount_shows}
 use Rattle.check_code.specs.Sound.{ecc_sound}
 use Rattle.burst.specs.Apart.{BurstsApart, NoBurstVanishes}
 

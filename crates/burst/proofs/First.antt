@@ -3,12 +3,6 @@ use Rattle.std.proofs.Common.{◌≡◌, ℕ, zero, suc, ◌+◌, ◌-◌, ◌<�
 use Rattle.std.proofs.lemmas.Bool.{cases_lt}
 use Rattle.burst.specs.Search.{or_else, first_below}
 
-pub some_none : {A : Type 0} (x : A) → Some x ≡ None → ⊥
-some_none x e = let z : ◌≡◌ {A = ℕ} 0 1 = cc in omega arith
-
-pub some_same : {A : Type 0} (x y : A) → Some x ≡ Some y → x ≡ y
-some_same x y e = cc
-
 module _ {A : Type 0} (f : ℕ → Option A) where
   pub first_none : first_below f 0 ≡ None
   unfolding first_below
@@ -38,12 +32,12 @@ module _ {A : Type 0} (f : ℕ → Option A) where
     where
       both : (a b : Option A) → or_else a b ≡ None → (a ≡ None) × (b ≡ None)
       both None b e = (refl, e)
-      both (Some x) b e = absurd (some_none x e)
+      both (Some x) b e = cc
 
   -- where there is one, it is the answer somewhere below, and none came before
   pub found_at : (n : ℕ) (x : A) → first_below f n ≡ Some x → (i : ℕ) × (i < n) × (first_below f i ≡ None) × (f i ≡ Some x)
   unfolding first_below
-  found_at zero x e = absurd (some_none x (sym e))
+  found_at zero x e = cc
   found_at (suc n) x e = from (first_below f n) refl (found_at n x)
     where
       from : (o : Option A) → first_below f n ≡ o → (first_below f n ≡ Some x → (i : ℕ) × (i < n) × (first_below f i ≡ None) × (f i ≡ Some x))

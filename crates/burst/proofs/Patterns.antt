@@ -5,8 +5,8 @@ use Rattle.std.proofs.lemmas.Bool.{cases_lt, cases_order, both_ways, leb-true, a
 use Rattle.sector.specs.Bits.{BitSet, digit_of, marked, OneBurst}
 use Rattle.sector.proofs.Marked.{digit_in, marked_at, marked_before}
 use Rattle.check_code.specs.Code.{append, fold}
-use Rattle.check_code.specs.Fold.{fold_cong}
-use Rattle.check_code.specs.Window.{clip, clip_in, clip_out, clip_lt, digit_same, Starts, starts, pattern}
+use Rattle.check_code.proofs.Fold.{fold_cong}
+use Rattle.check_code.proofs.Window.{clip, clip_in, clip_out, clip_lt, digit_same, Starts, starts, pattern}
 
 -- a pattern as the register sees it, its first bit at the top
 abbrev pub mirror : ℕ → ℕ

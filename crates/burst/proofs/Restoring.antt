@@ -1,5 +1,5 @@
 -- A sector with at most one burst of wrong bits is given back as it was written.
-use Rattle.std.proofs.Common.{◌≡◌, ℕ, ◌+◌, ◌*◌, ◌<◌, false, eqb, List, length, Some, None, Option, sym, refl, ap, ◌∙◌, subst, ap₂, ⊎_elim, arith}
+use Rattle.std.proofs.Common.{◌≡◌, ℕ, ◌+◌, ◌*◌, ◌<◌, false, eqb, List, length, Some, None, Option, Ok, sym, refl, ap, ◌∙◌, subst, ap₂, ⊎_elim, arith}
 use lib.Bits.{bit_xor}
 use Rattle.std.proofs.lemmas.Bool.{cond-true, cond-false, eq-eqb, ne_eqb}
 use Rattle.sector.specs.Sizes.{bytes_of, size_with}
@@ -8,12 +8,11 @@ use Rattle.sector.specs.Bits.{from_bit, inverted, OneBurst}
 use Rattle.sector.proofs.Sizes.{told_by_bytes}
 use Rattle.sector.proofs.Inverted.{length-inverted, inverted_none, inverted_back}
 use Rattle.check_code.specs.Code.{ecc_code, check_bytes_of, difference_of, amount_of}
-use Rattle.check_code.specs.LawsLemmas.{whole, inverting}
-use Rattle.check_code.specs.Window.{amount_shows}
 use Rattle.check_code.specs.Sound.{ecc_sound}
-use Rattle.burst.specs.declared.mending.Correction.TheVariants.{Intact, Mended}
+use Rattle.check_code.proofs.Laws.{whole, inverting}
+use Rattle.check_code.proofs.Window.{amount_shows}
 use Rattle.burst.specs.Search.{bits_of, set_of, first_burst}
-use Rattle.burst.specs.Mending.{by_burst, judged, correction, mended, Delivered, Restored}
+use Rattle.burst.specs.Mending.{Correction, by_burst, judged, correction, mended, Delivered, Restored}
 use Rattle.burst.proofs.Searching.{none_fits, fits}
 
 module _ (written bytes check : List ℕ) (d : Delivered written bytes check) where
@@ -57,16 +56,16 @@ module _ (written bytes check : List ℕ) (d : Delivered written bytes check) wh
 
     -- so the correction answers a burst
     pub burst_answer : (f : Burst) × (first_burst d.size (difference_of ecc_code bytes check) ≡ Some f)
-        × (judged d.size (difference_of ecc_code bytes check) ≡ Mended f)
+        × (judged d.size (difference_of ecc_code bytes check) ≡ Ok (Some f))
     burst_answer = answer (first_burst d.size (difference_of ecc_code bytes check)) refl
       where
         answer : (o : Option Burst) → first_burst d.size (difference_of ecc_code bytes check) ≡ o
-            → (f : Burst) × (first_burst d.size (difference_of ecc_code bytes check) ≡ Some f) × (judged d.size (difference_of ecc_code bytes check) ≡ Mended f)
+            → (f : Burst) × (first_burst d.size (difference_of ecc_code bytes check) ≡ Some f) × (judged d.size (difference_of ecc_code bytes check) ≡ Ok (Some f))
         answer None e = absurd (burst_fits e)
         answer (Some f) e = (
           f,
           e,
-          cond-false (eqb (difference_of ecc_code bytes check) 0) Intact (by_burst (first_burst d.size (difference_of ecc_code bytes check)))
+          cond-false (eqb (difference_of ecc_code bytes check) 0) (Ok None) (by_burst (first_burst d.size (difference_of ecc_code bytes check)))
               (ne_eqb (difference_of ecc_code bytes check) 0 burst_difference)
               ∙ ap by_burst e,
         )
@@ -75,12 +74,12 @@ module _ (written bytes check : List ℕ) (d : Delivered written bytes check) wh
   pub size_told : size_with (length bytes) ≡ Some d.size
   size_told = ap size_with (same_length ∙ sym d.long) ∙ told_by_bytes d.size
 
-  pub clean_answer : ((i : ℕ) → i < bits_of d.size → d.wrong i ≡ false) → judged d.size (difference_of ecc_code bytes check) ≡ Intact
+  pub clean_answer : ((i : ℕ) → i < bits_of d.size → d.wrong i ≡ false) → judged d.size (difference_of ecc_code bytes check) ≡ Ok None
   clean_answer clean =
-      cond-true (eqb (difference_of ecc_code bytes check) 0) Intact (by_burst (first_burst d.size (difference_of ecc_code bytes check)))
+      cond-true (eqb (difference_of ecc_code bytes check) 0) (Ok None) (by_burst (first_burst d.size (difference_of ecc_code bytes check)))
       (eq-eqb (difference_of ecc_code bytes check) 0 (clean_difference clean))
 
-pub restored : (bytes check : List ℕ) → Restored bytes check (mended (correction (size_with (length bytes)) bytes check) bytes)
+restored : (bytes check : List ℕ) → Restored bytes check (mended (correction (size_with (length bytes)) bytes check) bytes)
 restored bytes check written d =
     ap (λ o. mended (correction o bytes check) bytes) (size_told written bytes check d)
     ∙ ⊎_elim
@@ -91,3 +90,8 @@ restored bytes check written d =
     ∙ inverted_back d.wrong (set_of a.0) written
     (λ i l. burst_found written bytes check d b a.0 a.1 i (omega (arith, d.long))))
     d.few
+
+-- so it is after what any correction answers and leaves
+pub restored_by : (bytes check : List ℕ) (r : Correction) → r ≡ correction (size_with (length bytes)) bytes check
+    → (after : List ℕ) → after ≡ mended r bytes → Restored bytes check after
+restored_by bytes check r e after left = subst (λ t. Restored bytes check t) (sym (left ∙ ap (λ x. mended x bytes) e)) (restored bytes check)

@@ -8,13 +8,13 @@ use Rattle.sector.specs.Sizes.{bytes_of}
 use Rattle.sector.specs.Bits.{BitSet, digit_of, marked, OneBurst}
 use Rattle.check_code.specs.Code.{step, digits_of, ecc_code}
 use Rattle.check_code.specs.Aligned.{steps}
-use Rattle.check_code.specs.Register.{below_lt, steps_add, steps_more, steps_same}
-use Rattle.check_code.specs.LawsLemmas.{balance_cong}
-use Rattle.check_code.specs.Window.{clip, clip_lt, pattern_fits, padded, amount_below}
 use Rattle.check_code.specs.Sound.{ecc_sound}
+use Rattle.check_code.proofs.Register.{below_lt, steps_add, steps_more, steps_same}
+use Rattle.check_code.proofs.Laws.{balance_cong}
+use Rattle.check_code.proofs.Window.{clip, clip_lt, pattern_fits, padded, amount_below}
 use Rattle.burst.specs.Search.{bits_of, amount, first_below, candidate, first_burst, NoneFits, Fits}
 use Rattle.burst.proofs.Apart.{apart}
-use Rattle.burst.proofs.First.{some_none, some_same, first_none, first_more, first_found, none_below, found_at}
+use Rattle.burst.proofs.First.{first_none, first_more, first_found, none_below, found_at}
 use Rattle.burst.proofs.Patterns.{mirror, marked_burst, marked_starts, marked-pattern, marked_cut, marked_beyond, named}
 
 -- sets that agree in the sector have one amount
@@ -34,16 +34,16 @@ module _ (size : SizeCode) (d f half : ℕ) where
   candidate_miss n = cond-false (eqb (amount size (marked f (2 * half + 1))) d) (Some burst_at) None (ne_eqb (amount size (marked f (2 * half + 1))) d n)
 
   candidate_none : candidate size d f half ≡ None → amount size (marked f (2 * half + 1)) ≡ d → ⊥
-  candidate_none e h = some_none burst_at (sym (candidate_hit h) ∙ e)
+  candidate_none e h = cc (candidate_hit h)
 
   candidate_some : (b : Burst) → candidate size d f half ≡ Some b → (amount size (marked f (2 * half + 1)) ≡ d) × (burst_at ≡ b)
   candidate_some b e =
       ⊎_elim
       (λ t. (
         eqb-true (amount size (marked f (2 * half + 1))) d t,
-        some_same burst_at b (sym (cond-true (eqb (amount size (marked f (2 * half + 1))) d) (Some burst_at) None t) ∙ e),
+        cc (cond-true (eqb (amount size (marked f (2 * half + 1))) d) (Some burst_at) None t),
       ))
-      (λ t. absurd (some_none b (sym e ∙ cond-false (eqb (amount size (marked f (2 * half + 1))) d) (Some burst_at) None t)))
+      (λ t. cc (cond-false (eqb (amount size (marked f (2 * half + 1))) d) (Some burst_at) None t))
       (cases_Bool (eqb (amount size (marked f (2 * half + 1))) d))
 
 -- a pattern that reaches past the end stands for a smaller one, which came before
@@ -62,9 +62,9 @@ past_end size d f half inside small long passed e =
 
 -- ---- the register, taken back to bit f
 abbrev pub Back : SizeCode → ℕ → ℕ → ℕ → Type 0
-Back size d f register = (register < 2 ^ 32) × (steps ecc_code (bits_of size - f) register ≡ steps ecc_code 5 d)
+Back size d f register = steps ecc_code (bits_of size - f) register ≡ steps ecc_code 5 d
 
-module _ (size : SizeCode) (d f register : ℕ) (inside : f < bits_of size) (dl : d < 2 ^ 32) (back : Back size d f register)
+module _ (size : SizeCode) (d f register : ℕ) (inside : f < bits_of size) (dl : d < 2 ^ 32) (rl : register < 2 ^ 32) (back : Back size d f register)
     (p : ℕ) (odd : p % 2 ≡ 1) (small : p < 32) (ends : p < 2 ^ (bits_of size - f)) where
   five_on : steps ecc_code 5 (amount size (marked f p)) ≡ steps ecc_code (bits_of size - f) (mirror p)
   five_on =
@@ -89,28 +89,24 @@ module _ (size : SizeCode) (d f register : ℕ) (inside : f < bits_of size) (dl 
   pub hit : register ≡ mirror p → amount size (marked f p) ≡ d
   hit e =
       steps_same ecc_code ecc_sound 5 (amount size (marked f p)) d amount_lt dl
-      (five_on ∙ ap (steps ecc_code (bits_of size - f)) (sym e) ∙ back.1)
+      (five_on ∙ ap (steps ecc_code (bits_of size - f)) (sym e) ∙ back)
 
   pub miss : amount size (marked f p) ≡ d → register ≡ mirror p
   miss e =
-      steps_same ecc_code ecc_sound (bits_of size - f) register (mirror p) back.0 mirror_lt
-      (back.1 ∙ ap (steps ecc_code 5) (sym e) ∙ five_on)
+      steps_same ecc_code ecc_sound (bits_of size - f) register (mirror p) rl mirror_lt
+      (back ∙ ap (steps ecc_code 5) (sym e) ∙ five_on)
 
-pub back_first : (size : SizeCode) (d register : ℕ) → register < 2 ^ 32 → steps ecc_code (bits_of size - 5) register ≡ d → Back size d 0 register
-back_first size d register small e =
-    let all : bits_of size - 0 ≡ 5 + (bits_of size - 5) = omega arith in (
-      small,
-      ap (λ m. steps ecc_code m register) all ∙ steps_add ecc_code 5 (bits_of size - 5) register ∙ ap (steps ecc_code 5) e,
-    )
+pub back_first : (size : SizeCode) (d register : ℕ) → steps ecc_code (bits_of size - 5) register ≡ d → Back size d 0 register
+back_first size d register e =
+    let all : bits_of size - 0 ≡ 5 + (bits_of size - 5) = omega arith in
+    ap (λ m. steps ecc_code m register) all ∙ steps_add ecc_code 5 (bits_of size - 5) register ∙ ap (steps ecc_code 5) e
 
 pub back_more : (size : SizeCode) (d f register : ℕ) → f < bits_of size → Back size d f register
-    → (next : ℕ) → next < 2 ^ 32 → next ≡ step ecc_code register → Back size d (f + 1) next
-back_more size d f register inside back next small e =
-    let one : bits_of size - f ≡ suc (bits_of size - (f + 1)) = omega arith in (
-      small,
-      ap (steps ecc_code (bits_of size - (f + 1))) e ∙ steps_more ecc_code (bits_of size - (f + 1)) register
-          ∙ ap (λ m. steps ecc_code m register) (sym one) ∙ back.1,
-    )
+    → (next : ℕ) → next ≡ step ecc_code register → Back size d (f + 1) next
+back_more size d f register inside back next e =
+    let one : bits_of size - f ≡ suc (bits_of size - (f + 1)) = omega arith in
+    ap (steps ecc_code (bits_of size - (f + 1))) e ∙ steps_more ecc_code (bits_of size - (f + 1)) register
+    ∙ ap (λ m. steps ecc_code m register) (sym one) ∙ back
 
 -- ---- what the loops know: no candidate so far
 pub passed_none : (size : SizeCode) (d f : ℕ) → first_below (candidate size d f) 0 ≡ None
@@ -125,14 +121,14 @@ Passed size d f half = first_below (candidate size d f) half ≡ None
 abbrev pub Before : SizeCode → ℕ → ℕ → Type 0
 Before size d f = first_below (λ first. first_below (candidate size d first) 16) f ≡ None
 
-module _ (size : SizeCode) (d f register : ℕ) (inside : f < bits_of size) (dl : d < 2 ^ 32) (back : Back size d f register) where
+module _ (size : SizeCode) (d f register : ℕ) (inside : f < bits_of size) (dl : d < 2 ^ 32) (rl : register < 2 ^ 32) (back : Back size d f register) where
   pub passed_more : (half : ℕ) → half < 16 → Passed size d f half
       → (register ≡ mirror (2 * half + 1) → 2 * half + 1 < 2 ^ (bits_of size - f) → ⊥) → Passed size d f (half + 1)
   passed_more half small passed unfit =
       first_more (candidate size d f) half passed
       (candidate_miss size d f half (λ e.
       ⊎_elim
-      (λ ends. unfit (miss size d f register inside dl back (2 * half + 1) (omega arith) (omega arith) ends e) ends)
+      (λ ends. unfit (miss size d f register inside dl rl back (2 * half + 1) (omega arith) (omega arith) ends e) ends)
       (λ long. past_end size d f half inside small long passed e)
       (cases_lt (2 * half + 1) (2 ^ (bits_of size - f)))))
 
@@ -142,7 +138,7 @@ module _ (size : SizeCode) (d f register : ℕ) (inside : f < bits_of size) (dl 
   found half small passed before e ends =
       first_found (λ first. first_below (candidate size d first) 16) f (bits_of size) (burst_at size d f half) inside before
       (first_found (candidate size d f) half 16 (burst_at size d f half) small passed
-      (candidate_hit size d f half (hit size d f register inside dl back (2 * half + 1) (omega arith) (omega arith) ends e)))
+      (candidate_hit size d f half (hit size d f register inside dl rl back (2 * half + 1) (omega arith) (omega arith) ends e)))
 
 pub before_more : (size : SizeCode) (d f : ℕ) → Before size d f → Passed size d f 16 → Before size d (f + 1)
 before_more size d f before passed = first_more (λ first. first_below (candidate size d first) 16) f before passed

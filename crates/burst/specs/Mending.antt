@@ -1,34 +1,37 @@
 -- Mending a delivered sector.
-use Rattle.std.specs.Prelude.{◌≡◌, ℕ, ◌*◌, ◌<◌, false, cond, ◌⊎◌, List, length, Some, None, Option, ◌==◌}
+use Rattle.std.specs.Prelude.{◌≡◌, ℕ, ◌*◌, ◌<◌, false, cond, ◌⊎◌, List, length, Some, None, Option, Ok, Err, Result, ◌==◌}
 use Rattle.sector.specs.declared.wrong_bits.Burst.{Burst}
 use Rattle.sector.specs.declared.size.SizeCode.{SizeCode}
 use Rattle.sector.specs.Sizes.{bytes_of}
 use Rattle.sector.specs.Bits.{BitSet, from_bit, inverted, OneBurst}
 use Rattle.check_code.specs.Code.{ecc_code, check_bytes_of, difference_of}
-use Rattle.burst.specs.declared.mending.Correction.{Correction}
-use Rattle.burst.specs.declared.mending.Correction.TheVariants.{Intact, Mended, Uncorrectable, UnknownSize}
+use Rattle.burst.specs.declared.mending.CorrectionError.{CorrectionError}
+use Rattle.burst.specs.declared.mending.CorrectionError.TheVariants.{Uncorrectable, UnknownSize}
 use Rattle.burst.specs.Search.{bits_of, set_of, first_burst}
+
+-- What a correction answers: the burst that it mended, or none where the check fits the bytes, or why there is no correction.
+abbrev pub Correction : Type 0
+Correction = Result (Option Burst) CorrectionError
 
 -- what is made of a burst that was found, or not found
 abbrev pub by_burst : Option Burst → Correction
-by_burst (Some b) = Mended b
-by_burst None = Uncorrectable
+by_burst (Some b) = Ok (Some b)
+by_burst None = Err Uncorrectable
 
 -- what a correction answers at a difference: the check fits the bytes, or it goes by the first burst
 abbrev pub judged : SizeCode → ℕ → Correction
-judged size difference = cond (difference == 0) Intact (by_burst (first_burst size difference))
+judged size difference = cond (difference == 0) (Ok None) (by_burst (first_burst size difference))
 
 -- what a correction answers; where sectors do not come in this length, it is refused
 abbrev pub correction : Option SizeCode → List ℕ → List ℕ → Correction
 correction (Some size) bytes check = judged size (difference_of ecc_code bytes check)
-correction None bytes check = UnknownSize
+correction None bytes check = Err UnknownSize
 
 -- what an answer leaves in the bytes: a burst that is answered is inverted
 abbrev pub mended : Correction → List ℕ → List ℕ
-mended Intact bytes = bytes
-mended (Mended b) bytes = inverted (set_of b) bytes
-mended Uncorrectable bytes = bytes
-mended UnknownSize bytes = bytes
+mended (Ok (Some b)) bytes = inverted (set_of b) bytes
+mended (Ok None) bytes = bytes
+mended (Err e) bytes = bytes
 
 -- no bit of a sector is wrong, or those that are make one burst
 abbrev pub AtMostOneBurst : BitSet → ℕ → Type 0

@@ -8,6 +8,6 @@ mod mending;
 mod search;
 mod theorems;
 
-pub use mending::{Correction, correct, mend};
+pub use mending::{CorrectionError, correct, mend};
 pub use search::find_burst;
 pub use theorems::bursts_apart;

@@ -8,17 +8,14 @@ ghost use Rattle.burst.specs.Mending.{correction, mended, Restored};
 use super::search::find_burst;
 use check_code::{Ecc, difference};
 use sector::{Burst, SizeCode, invert_burst};
+use thiserror::Error;
 
-// What a correction found.
-#[derive(Clone, Copy, PartialEq, Eq, Debug)]
-pub enum Correction {
-    // The check fits the bytes.
-    Intact,
-    // This burst was wrong, and is inverted again.
-    Mended(Burst),
-    // No burst explains the difference; the bytes stay.
+// Why a sector is not corrected; its bytes stay.
+#[derive(Clone, Copy, PartialEq, Eq, Debug, Error)]
+pub enum CorrectionError {
+    #[error("no burst explains the difference")]
     Uncorrectable,
-    // Sectors do not come in this length; the bytes stay.
+    #[error("no sector has this length")]
     UnknownSize,
 }
 
@@ -29,30 +26,19 @@ pub fn mend(bytes: &mut [u8], burst: Burst)
     invert_burst(bytes, 0, burst);
 }
 
-// Judges a delivered ECC sector by its check bytes, and inverts the burst that explains its difference.
-fn judge(bytes: &mut [u8], check: [u8; 4]) -> Correction
-    ensures answer { result ≡ correction (size_with (length bytes.old)) bytes.old check }
-    ensures after { bytes.new ≡ mended result bytes.old }
-{
-    let Some(size) = SizeCode::from_length(bytes.len()) else {
-        return Correction::UnknownSize;
-    };
-    let difference = difference::<Ecc>(bytes, check);
-    if difference == 0 {
-        return Correction::Intact;
-    }
-    let Some(burst) = find_burst(difference, size) else {
-        return Correction::Uncorrectable;
-    };
-    mend(bytes, burst);
-    Correction::Mended(burst)
-}
-
-// Corrects a delivered ECC sector: where at most one burst of it is wrong, its bytes are then as they were written.
-pub fn correct(bytes: &mut [u8], check: [u8; 4]) -> Correction
+// Corrects a delivered ECC sector, and answers the burst that was wrong, if one was: where at most one burst of it is wrong,
+// its bytes are then as they were written.
+pub fn correct(bytes: &mut [u8], check: [u8; 4]) -> Result<Option<Burst>, CorrectionError>
     ensures answer { result ≡ correction (size_with (length bytes.old)) bytes.old check }
     ensures after { bytes.new ≡ mended result bytes.old }
     ensures restored { Restored bytes.old check bytes.new }
 {
-    judge(bytes, check)
+    let size = SizeCode::from_length(bytes.len()).ok_or(CorrectionError::UnknownSize)?;
+    let difference = difference::<Ecc>(bytes, check);
+    if difference == 0 {
+        return Ok(None);
+    }
+    let burst = find_burst(difference, size).ok_or(CorrectionError::Uncorrectable)?;
+    mend(bytes, burst);
+    Ok(Some(burst))
 }

@@ -1,42 +1,39 @@
 // The search for the burst that a difference tells of.
-ghost use Rattle.std.specs.Prelude.{◌≡◌, ℕ, ◌+◌, ◌-◌, ◌*◌, ◌/◌, ◌%◌, ◌^◌, ◌<◌, ◌≤◌, MatchOption, nat_lt};
+ghost use Rattle.std.specs.Prelude.{◌≡◌, ◌/◌, ◌%◌, ◌^◌, MatchOption, nat_lt};
 ghost use Rattle.check_code.specs.Code.{ecc_code, step, append, fold};
 ghost use Rattle.check_code.specs.Aligned.{steps};
 ghost use Rattle.burst.specs.Search.{first_burst, NoneFits, Fits};
 
 use sector::{Burst, SizeCode};
 
-// X^32 + X^28 + X^26 + X^19 + X^17 + X^10 + X^6 + X^2 + 1, bit i for X^i.
-const DIVISOR: u64 = 0x1_140a_0445;
+// X^28 + X^26 + X^19 + X^17 + X^10 + X^6 + X^2 + 1, bit i for X^i: the polynomial without X^32, which falls out of the register.
+const DIVISOR: u32 = 0x140a_0445;
 
 // One shift of the register, less the polynomial where its top bit falls out.
-fn shift(register: u64) -> u64
-    requires { register < 2 ^ 32 }
-    ensures is { result ≡ step ecc_code register }
-    ensures fits { result < 2 ^ 32 }
+#[tactic(auto, using(crate::proofs::Shift::shift_is))]
+fn shift(register: u32) -> u32
+    ensures { result ≡ step ecc_code register }
 {
-    (register << 1) ^ (DIVISOR * ((register >> 31) & 1))
+    (register << 1) ^ (DIVISOR * (register >> 31))
 }
 
 // One shift undone.
-fn unshift(register: u64) -> u64
-    requires { register < 2 ^ 32 }
-    ensures is { step ecc_code result ≡ register }
-    ensures fits { result < 2 ^ 32 }
+#[tactic(auto, using(crate::proofs::Shift::undo_odd))]
+fn unshift(register: u32) -> u32
+    ensures { step ecc_code result ≡ register }
 {
     if register % 2 == 0 {
         register / 2
     } else {
-        (register ^ DIVISOR) / 2
+        (register ^ DIVISOR) / 2 + 0x8000_0000
     }
 }
 
 // The register from which so many shifts lead to the difference.
-fn taken_back(difference: u32, shifts: u16) -> u64
-    ensures is { steps ecc_code shifts result ≡ difference }
-    ensures fits { result < 2 ^ 32 }
+fn taken_back(difference: u32, shifts: u16) -> u32
+    ensures { steps ecc_code shifts result ≡ difference }
 {
-    let mut register = difference as u64;
+    let mut register = difference;
     for _i in 0..shifts {
         register = unshift(register);
     }
@@ -44,12 +41,11 @@ fn taken_back(difference: u32, shifts: u16) -> u64
 }
 
 // A pattern of five bits as the register sees it, its first bit at the top.
-fn mirrored(pattern: u8) -> u64
-    requires { pattern < 32 }
+#[tactic(auto, using(crate::proofs::Shift::mirror_is))]
+fn mirrored(pattern: u8) -> u32
     ensures { result ≡ fold append 0 (λ j. pattern / 2 ^ j % 2) 5 }
 {
-    let p = pattern as u64;
-    (p & 1) * 16 + (p >> 1 & 1) * 8 + (p >> 2 & 1) * 4 + (p >> 3 & 1) * 2 + (p >> 4 & 1)
+    u32::from(pattern.reverse_bits() >> 3)
 }
 
 // Whether a pattern has no bit past so many.
@@ -67,6 +63,7 @@ pub fn find_burst(difference: u32, size: SizeCode) -> Option<Burst>
     let bits = 8 * size.bytes() as u16 + 32;
     let mut register = taken_back(difference, bits - 5);
     let mut found = None;
+    // Two loops that a label leaves show the order of the search; a chain would hide it, and the register that goes along.
     'search: for first in 0..bits {
         for half in 0..16u8 {
             let pattern = 2 * half + 1;

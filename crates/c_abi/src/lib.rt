@@ -13,12 +13,12 @@ use burst::find_burst;
 use check_code::{CheckCode, Crc, Ecc, remainder};
 use sector::SizeCode;
 
-// The CRC of some bytes.
+// The CRC of some bytes. C has no generics, so each code has a function under a name of its own.
 #[unsafe(no_mangle)]
 pub extern "C" fn disk_crc(bytes: &[u8]) -> u32
     ensures { result ≡ check_of crc_code bytes.now }
 {
-    remainder::<Crc>(Crc::start(), bytes)
+    remainder::<Crc>(Crc::START, bytes)
 }
 
 // The ECC of some bytes.
@@ -26,7 +26,7 @@ pub extern "C" fn disk_crc(bytes: &[u8]) -> u32
 pub extern "C" fn disk_ecc(bytes: &[u8]) -> u32
     ensures { result ≡ check_of ecc_code bytes.now }
 {
-    remainder::<Ecc>(Ecc::start(), bytes)
+    remainder::<Ecc>(Ecc::START, bytes)
 }
 
 // The first bit of the burst that a difference tells of in a sector of 512 bytes, or FFFFh where none has it.
@@ -34,6 +34,7 @@ pub extern "C" fn disk_ecc(bytes: &[u8]) -> u32
 pub extern "C" fn disk_burst(difference: u32) -> u16
     ensures { result ≡ first_bit (first_burst Bytes512 difference) }
 {
+    // C has no options: a number that is no bit of the sector stands for none.
     match find_burst(difference, SizeCode::Bytes512) {
         Some(burst) => burst.first,
         None => 0xffff,

@@ -5,7 +5,7 @@ use lib.Bits.{bit_xor}
 use lib.Pow.{mod-pow-add, shl-shr}
 use Rattle.check_code.specs.Code.{Code, width, step, enter, fold}
 use Rattle.check_code.specs.Aligned.{aligned}
-use Rattle.check_code.specs.Fold.{shl_xor}
+use Rattle.check_code.proofs.Fold.{shl_xor}
 
 -- a factor in the middle goes last
 swap_last : (a b p : ℕ) → a * p * b ≡ a * b * p

@@ -8,9 +8,9 @@ use Rattle.sector.specs.Bits.{differs, bit_at}
 use Rattle.check_code.specs.Code.{Code, width, enter, append, fold, remainder_of}
 use Rattle.check_code.specs.Laws.{Sound}
 use Rattle.check_code.specs.Division.{Polynomial, DegreeBelow, plus, products, times, raised, of_number, CheckIsRemainder}
-use Rattle.check_code.specs.Fold.{xor_swap, shl_xor, dbl_xor, Bits, append_is}
-use Rattle.check_code.specs.Register.{enters_lt}
-use Rattle.check_code.specs.Bytes.{bit_at_lt}
+use Rattle.check_code.proofs.Fold.{xor_swap, shl_xor, dbl_xor, Bits, append_is}
+use Rattle.check_code.proofs.Register.{enters_lt}
+use Rattle.check_code.proofs.Bytes.{bit_at_lt}
 
 -- ---- numbers as polynomials
 digit_xor : (x y : ℕ) → x < 2 → y < 2 → eqb (bit_xor x y) 1 ≡ differs (eqb x 1) (eqb y 1)

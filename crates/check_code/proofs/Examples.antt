@@ -5,7 +5,7 @@ use Rattle.std.proofs.lemmas.Bool.{eq-eqb, ne_eqb}
 use Rattle.sector.specs.Bits.{digit_of}
 use Rattle.check_code.specs.Code.{Code, width, enter, append, fold, digits_of, amount_of, crc_code, ecc_code}
 use Rattle.check_code.specs.Examples.{last_data_bit, Examples}
-use Rattle.check_code.specs.Fold.{fold_zero}
+use Rattle.check_code.proofs.Fold.{fold_zero}
 
 last_amount : (c : Code) → enter c 0 0 ≡ 0 → (n : ℕ) → amount_of c (last_data_bit n) (suc n) ≡ enter c 0 1
 last_amount c e0 n =

@@ -1,3 +1,8 @@
+pub mod Fold
+pub mod Register
+pub mod Bytes
+pub mod Laws
+pub mod Window
 pub mod Table
 pub mod Aligned
 pub mod Division

@@ -1,11 +1,11 @@
 -- The table: its entries are the shifts of each byte, and by them a register takes a whole byte at once.
 use Rattle.std.proofs.Common.{◌≡◌, ℕ, zero, suc, ◌+◌, ◌*◌, ◌/◌, ◌%◌, ◌^◌, ◌<◌, List, [], ◌∷◌, get_or, sym, ap, ◌∙◌, ap₂, add-zero, add-suc, suc-add, zero-add, mul-div_cancel, arith, pow_pos}
 use native.Mathlib.Nat.{mul-mod_left}
-use lib.Bits.{bit_xor, xor_shr, xor_mod, xor_shifted, xor_comm, xor_lt, xor_zero_r}
+use lib.Bits.{bit_xor, xor_shr, xor_mod, xor_shifted, xor_comm, xor_zero_r}
 use lib.Pow.{split}
 use Rattle.check_code.specs.Code.{Code}
 use Rattle.check_code.specs.Aligned.{steps, aligned}
-use Rattle.check_code.specs.Register.{steps_xor, steps_small}
+use Rattle.check_code.proofs.Register.{steps_xor, steps_small}
 
 -- what eight shifts make of each of n bytes at the top of 32 bits, from the byte b on
 abbrev pub entries : Code → ℕ → ℕ → List ℕ
@@ -19,9 +19,6 @@ entries_at c (suc n) b (suc j) h = entries_at c n (suc b) j (omega arith) ∙ ap
 
 pub table_at : (c : Code) (b : ℕ) → b < 256 → get_or (entries c 256 0) b 0 ≡ steps c 8 (b * 2 ^ 24)
 table_at c b h = entries_at c 256 0 b h ∙ ap (λ y. steps c 8 (y * 2 ^ 24)) (zero-add b)
-
-pub index_lt : (v b : ℕ) → v < 2 ^ 32 → b < 256 → bit_xor (v / 2 ^ 24) b < 256
-index_lt v b hv hb = xor_lt 8 (v / 2 ^ 24) b (omega arith) hb
 
 -- the low three bytes move up, and the top byte, with the new one, turns into its entry
 pub byte_step : (c : Code) (v b : ℕ) → v < 2 ^ 32 → b < 256

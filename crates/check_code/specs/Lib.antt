@@ -5,8 +5,3 @@ pub mod Division
 pub mod Examples
 pub mod Mode
 pub mod Sound
-pub mod LawsLemmas
-pub mod Fold
-pub mod Register
-pub mod Bytes
-pub mod Window

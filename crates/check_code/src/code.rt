@@ -1,41 +1,41 @@
 // One interface for check codes, and what is computed through it.
-ghost use Rattle.std.specs.Prelude.{◌≡◌, ◌-◌, ◌*◌, ◌^◌};
+ghost use Rattle.std.specs.Prelude.{◌≡◌, ℕ, ◌-◌, ◌*◌, ◌^◌};
 ghost use Rattle.check_code.specs.Code.{Code, width as width_of, remainder_of, check_bytes_of, delivered_check, difference_of};
-ghost use Rattle.check_code.specs.Laws.{Sound, WrittenWhole, Inverting, Combining, BurstShows};
+ghost use Rattle.check_code.specs.Laws.{Sound};
 ghost use Rattle.check_code.specs.Aligned.{aligned, steps};
 
-// A check code: its register and polynomial, by `code`, and the laws that code above it is proved from.
+// A check code, its register and polynomial given by `code`. Every law of it follows from `sound`, as `laws_stand` says.
 pub trait CheckCode {
     ghost code: { Code };
 
     // How many bits the register has.
-    fn width() -> u32
-        ensures { result ≡ width_of code };
+    ghost WIDTH: { ℕ };
+
+    const WIDTH: u32;
 
     // What the register holds at the start.
-    fn start() -> u32
-        ensures { result ≡ code.start };
+    ghost START: { ℕ };
+
+    const START: u32;
 
     // What eight shifts make of a byte at the top of the register, which stands at the top of 32 bits.
     fn shifted(byte: u8) -> u32
         ensures { result ≡ steps (aligned code) 8 (byte * 2 ^ 24) };
 
+    // The polynomial has the register's degree, and the start fits the register.
     ghost sound: { Sound code };
 
-    ghost whole: { WrittenWhole code };
+    // The two constants are the code's own.
+    ghost width_is: { WIDTH ≡ width_of code };
 
-    ghost inverting: { Inverting code };
-
-    ghost combining: { Combining code };
-
-    ghost shows: { BurstShows code };
+    ghost start_is: { START ≡ code.start };
 }
 
 // The remainder after more bytes, from a remembered one on, at the top of 32 bits.
 fn register_after<C: CheckCode>(from: u32, bytes: &[u8]) -> u32
     ensures { result ≡ remainder_of C.CheckCode.code from bytes.now * 2 ^ (32 - width_of C.CheckCode.code) }
 {
-    let mut register = from << (32 - C::width());
+    let mut register = from << (32 - C::WIDTH);
     for byte in bytes {
         register = (register << 8) ^ C::shifted((register >> 24) as u8 ^ *byte);
     }
@@ -46,26 +46,26 @@ fn register_after<C: CheckCode>(from: u32, bytes: &[u8]) -> u32
 fn delivered<C: CheckCode>(check: [u8; 4]) -> u32
     ensures { result ≡ delivered_check C.CheckCode.code check }
 {
-    u32::from_be_bytes(check) >> (32 - C::width())
+    u32::from_be_bytes(check) >> (32 - C::WIDTH)
 }
 
 // The remainder after more bytes, from a remembered one on.
 pub fn remainder<C: CheckCode>(from: u32, bytes: &[u8]) -> u32
     ensures { result ≡ remainder_of C.CheckCode.code from bytes.now }
 {
-    register_after::<C>(from, bytes) >> (32 - C::width())
+    register_after::<C>(from, bytes) >> (32 - C::WIDTH)
 }
 
 // The four check bytes of a sector's bytes.
 pub fn check_bytes<C: CheckCode>(bytes: &[u8]) -> [u8; 4]
     ensures { result ≡ check_bytes_of C.CheckCode.code bytes.now }
 {
-    register_after::<C>(C::start(), bytes).to_be_bytes()
+    register_after::<C>(C::START, bytes).to_be_bytes()
 }
 
 // The difference of a delivered sector: its recomputed check xor its delivered check.
 pub fn difference<C: CheckCode>(bytes: &[u8], check: [u8; 4]) -> u32
     ensures { result ≡ difference_of C.CheckCode.code bytes.now check }
 {
-    remainder::<C>(C::start(), bytes) ^ delivered::<C>(check)
+    remainder::<C>(C::START, bytes) ^ delivered::<C>(check)
 }

@@ -1,12 +1,10 @@
 // The two codes, each with its table.
-ghost use Rattle.std.specs.Prelude.{◌≡◌};
-ghost use Rattle.check_code.specs.Code.{crc_code, ecc_code};
+ghost use Rattle.std.specs.Prelude.{refl};
+ghost use Rattle.check_code.specs.Code.{width as width_of, crc_code, ecc_code};
 ghost use Rattle.check_code.specs.Sound.{crc_sound, ecc_sound};
-ghost use Rattle.check_code.specs.LawsLemmas as Laws;
-ghost use Rattle.check_code.specs.Window.{burst_shows};
 
 use super::code::CheckCode;
-use super::tables::{crc_entry, ecc_entry};
+use super::tables::{CRC_TABLE, ECC_TABLE};
 
 // X^16 + X^12 + X^5 + 1, from FFFFh.
 pub struct Crc;
@@ -17,51 +15,43 @@ pub struct Ecc;
 impl CheckCode for Crc {
     ghost code = { crc_code };
 
+    ghost WIDTH = { width_of crc_code };
+
+    ghost START = { crc_code.start };
+
     ghost sound = { crc_sound };
 
-    ghost whole = { Laws.whole crc_code crc_sound };
+    ghost width_is = { refl };
 
-    ghost inverting = { Laws.inverting crc_code crc_sound };
+    ghost start_is = { refl };
 
-    ghost combining = { Laws.combining crc_code };
+    const WIDTH: u32 = 16;
 
-    ghost shows = { burst_shows crc_code crc_sound };
-
-    fn width() -> u32 {
-        16
-    }
-
-    fn start() -> u32 {
-        0x0000_ffff
-    }
+    const START: u32 = 0x0000_ffff;
 
     fn shifted(byte: u8) -> u32 {
-        crc_entry(byte)
+        CRC_TABLE[byte as usize]
     }
 }
 
 impl CheckCode for Ecc {
     ghost code = { ecc_code };
 
+    ghost WIDTH = { width_of ecc_code };
+
+    ghost START = { ecc_code.start };
+
     ghost sound = { ecc_sound };
 
-    ghost whole = { Laws.whole ecc_code ecc_sound };
+    ghost width_is = { refl };
 
-    ghost inverting = { Laws.inverting ecc_code ecc_sound };
+    ghost start_is = { refl };
 
-    ghost combining = { Laws.combining ecc_code };
+    const WIDTH: u32 = 32;
 
-    ghost shows = { burst_shows ecc_code ecc_sound };
-
-    fn width() -> u32 {
-        32
-    }
-
-    fn start() -> u32 {
-        0xffff_ffff
-    }
+    const START: u32 = 0xffff_ffff;
 
     fn shifted(byte: u8) -> u32 {
-        ecc_entry(byte)
+        ECC_TABLE[byte as usize]
     }
 }

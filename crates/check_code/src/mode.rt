@@ -13,6 +13,7 @@ pub enum CheckMode {
     Ecc,
 }
 
+// A code is a type, so each call below names both: a function taken from a table, or a closure, would be no plainer.
 impl CheckMode {
     // The four check bytes of a sector's bytes under this code.
     pub fn bytes_for(self, bytes: &[u8]) -> [u8; 4]

@@ -1,24 +1,7 @@
 // The tables by which a register takes a whole byte at once: what eight shifts make of each byte at its top.
-ghost use Rattle.std.specs.Prelude.{◌≡◌, ◌*◌, ◌^◌};
-ghost use Rattle.check_code.specs.Code.{crc_code, ecc_code};
-ghost use Rattle.check_code.specs.Aligned.{aligned, steps};
-
-// The entry of a byte in the CRC's table.
-pub fn crc_entry(byte: u8) -> u32
-    ensures { result ≡ steps (aligned crc_code) 8 (byte * 2 ^ 24) }
-{
-    CRC_TABLE[byte as usize]
-}
-
-// The entry of a byte in the ECC's table.
-pub fn ecc_entry(byte: u8) -> u32
-    ensures { result ≡ steps (aligned ecc_code) 8 (byte * 2 ^ 24) }
-{
-    ECC_TABLE[byte as usize]
-}
 
 // The CRC's register stands at the top of 32 bits, so the low half of each entry is zero.
-static CRC_TABLE: [u32; 256] = [
+pub static CRC_TABLE: [u32; 256] = [
     0x00000000, 0x10210000, 0x20420000, 0x30630000, 0x40840000, 0x50a50000, 0x60c60000, 0x70e70000,
     0x81080000, 0x91290000, 0xa14a0000, 0xb16b0000, 0xc18c0000, 0xd1ad0000, 0xe1ce0000, 0xf1ef0000,
     0x12310000, 0x02100000, 0x32730000, 0x22520000, 0x52b50000, 0x42940000, 0x72f70000, 0x62d60000,
@@ -54,7 +37,7 @@ static CRC_TABLE: [u32; 256] = [
 ];
 
 // The ECC's register has 32 bits.
-static ECC_TABLE: [u32; 256] = [
+pub static ECC_TABLE: [u32; 256] = [
     0x00000000, 0x140a0445, 0x2814088a, 0x3c1e0ccf, 0x50281114, 0x44221551, 0x783c199e, 0x6c361ddb,
     0xa0502228, 0xb45a266d, 0x88442aa2, 0x9c4e2ee7, 0xf078333c, 0xe4723779, 0xd86c3bb6, 0xcc663ff3,
     0x54aa4015, 0x40a04450, 0x7cbe489f, 0x68b44cda, 0x04825101, 0x10885544, 0x2c96598b, 0x389c5dce,

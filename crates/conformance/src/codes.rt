@@ -1,30 +1,27 @@
 // The codes against published values, and bursts at the edges of sectors of every size.
-use burst::{Correction, correct};
-use check_code::{Crc, Ecc, check_bytes, difference, remainder};
+use burst::{CorrectionError, correct};
+use check_code::{CheckCode, Crc, Ecc, check_bytes, difference, remainder};
 use sector::{Burst, invert_burst};
 use std::process::Abort;
 
-fn crc_is(rt: &impl Abort, text: &[u8], crc: u32) {
-    assert_eq!(rt; remainder::<Crc>(0xffff, text), crc);
-}
-
-fn ecc_is(rt: &impl Abort, text: &[u8], ecc: u32) {
-    assert_eq!(rt; remainder::<Ecc>(0xffff_ffff, text), ecc);
+// The check of a text, from the code's start on.
+fn check_is<C: CheckCode>(rt: &impl Abort, text: &[u8], check: u32) {
+    assert_eq!(rt; remainder::<C>(C::START, text), check);
 }
 
 // CRC-16/CCITT-FALSE values as they are published, and ECC values from a bit-by-bit register.
 #[test]
 fn known_values(rt: HostRuntime) {
-    crc_is(&rt, b"", 0xffff);
-    crc_is(&rt, b"A", 0xb915);
-    crc_is(&rt, b"123456789", 0x29b1);
-    crc_is(&rt, b"abc", 0x514a);
-    crc_is(&rt, &[b'A'; 256], 0xea0b);
-    crc_is(&rt, &[0; 512], 0x1634);
-    ecc_is(&rt, b"", 0xffff_ffff);
-    ecc_is(&rt, b"A", 0x572b_0cab);
-    ecc_is(&rt, b"123456789", 0xd839_40b8);
-    ecc_is(&rt, &[0; 512], 0x164b_4314);
+    check_is::<Crc>(&rt, b"", 0xffff);
+    check_is::<Crc>(&rt, b"A", 0xb915);
+    check_is::<Crc>(&rt, b"123456789", 0x29b1);
+    check_is::<Crc>(&rt, b"abc", 0x514a);
+    check_is::<Crc>(&rt, &[b'A'; 256], 0xea0b);
+    check_is::<Crc>(&rt, &[0; 512], 0x1634);
+    check_is::<Ecc>(&rt, b"", 0xffff_ffff);
+    check_is::<Ecc>(&rt, b"A", 0x572b_0cab);
+    check_is::<Ecc>(&rt, b"123456789", 0xd839_40b8);
+    check_is::<Ecc>(&rt, &[0; 512], 0x164b_4314);
 }
 
 // CRC fills two check bytes and leaves two zero, and ignores those two when it judges; ECC judges all four.
@@ -43,13 +40,11 @@ fn check_bytes_and_judging(rt: HostRuntime) {
 // A sector, of which so many bits are data, comes back from a burst.
 fn mends(rt: &impl Abort, sector: &mut [u8], seam: u16, first: u16, pattern: u8) {
     let burst = Burst { first, pattern };
-    for byte in sector.iter_mut() {
-        *byte = 0x5a;
-    }
+    sector.fill(0x5a);
     let mut delivered = check_bytes::<Ecc>(sector);
     invert_burst(sector, 0, burst);
     invert_burst(&mut delivered, seam, burst);
-    assert_eq!(rt; correct(sector, delivered), Correction::Mended(burst));
+    assert_eq!(rt; correct(sector, delivered), Ok(Some(burst)));
     for byte in sector.iter() {
         assert_eq!(rt; *byte, 0x5a);
     }
@@ -95,7 +90,7 @@ fn bursts_at_the_edges(rt: HostRuntime) {
 fn what_is_not_mended(rt: HostRuntime) {
     let mut sector = [0u8; 128];
     let written = check_bytes::<Ecc>(&sector);
-    assert_eq!(rt; correct(&mut sector, written), Correction::Intact);
+    assert_eq!(rt; correct(&mut sector, written), Ok(None));
     invert_burst(
         &mut sector,
         0,
@@ -112,8 +107,14 @@ fn what_is_not_mended(rt: HostRuntime) {
             pattern: 1,
         },
     );
-    assert_eq!(rt; correct(&mut sector, written), Correction::Uncorrectable);
+    assert_eq!(rt;
+        correct(&mut sector, written),
+        Err(CorrectionError::Uncorrectable)
+    );
     assert_eq!(rt; sector[0], 0x10);
     let mut odd = [0u8; 100];
-    assert_eq!(rt; correct(&mut odd, written), Correction::UnknownSize);
+    assert_eq!(rt;
+        correct(&mut odd, written),
+        Err(CorrectionError::UnknownSize)
+    );
 }

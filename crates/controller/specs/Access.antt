@@ -1,5 +1,5 @@
 -- The access rules, and what register reads and writes answer and leave.
-use Rattle.std.specs.Prelude.{ℕ, Bool, true, false, not, ◌||◌, is_some, Some, None, Ok, Err, Option, Result}
+use Rattle.std.specs.Prelude.{ℕ, Bool, true, false, not, ◌||◌, is_some, Some, None, Ok, Err, Option, Result, ◌==◌}
 use Rattle.sector.specs.Sizes.{bytes_of}
 use Rattle.drive.specs.Asking.{unless}
 use Rattle.task_file.specs.declared.registers.Register.{Register}
@@ -9,7 +9,7 @@ use Rattle.task_file.specs.declared.state.Phase.{Phase}
 use Rattle.task_file.specs.declared.state.Phase.TheVariants.{Rest, Busy, Offering, Taking}
 use Rattle.task_file.specs.declared.state.State.{State}
 use Rattle.task_file.specs.declared.view.DriveView.{DriveView}
-use Rattle.task_file.specs.Registers.{register_numbered, size_at, stored}
+use Rattle.task_file.specs.Registers.{register_number, register_numbered, size_at, stored}
 use Rattle.task_file.specs.Commands.{command_of}
 use Rattle.task_file.specs.Failures.{error_byte}
 use Rattle.task_file.specs.State.{with_registers, with_intrq, is_busy, requests}
@@ -29,24 +29,10 @@ refusal_number refusal.NoCommand = 5
 
 -- ---- which register, and which way bytes move
 abbrev pub is_data : Register → Bool
-is_data register.Data = true
-is_data register.Error = false
-is_data register.Count = false
-is_data register.Number = false
-is_data register.Low = false
-is_data register.High = false
-is_data register.Sdh = false
-is_data register.Status = false
+is_data r = register_number r == 0
 
 abbrev pub is_status : Register → Bool
-is_status register.Data = false
-is_status register.Error = false
-is_status register.Count = false
-is_status register.Number = false
-is_status register.Low = false
-is_status register.High = false
-is_status register.Sdh = false
-is_status register.Status = true
+is_status r = register_number r == 7
 
 -- DRQ is on, towards the host
 abbrev pub offers : Phase → Bool
@@ -101,7 +87,7 @@ offered_in (Offering m at) s = byte_at s.buffer (bytes_of (size_at s.registers.s
 offered_in (Taking l at) s = 0
 
 -- the byte that a read gives
-abbrev pub read_byte : State → DriveView → Register → ℕ
+abbrev pub read_byte : State → Option DriveView → Register → ℕ
 read_byte s v register.Data = offered_in s.phase s
 read_byte s v register.Error = error_byte s.failure
 read_byte s v register.Count = s.registers.count
@@ -128,7 +114,7 @@ read_effect s register.High = s
 read_effect s register.Sdh = s
 read_effect s register.Status = with_intrq s false
 
-unfoldable pub read_answer_of : State → DriveView → ℕ → Result ℕ Refusal
+unfoldable pub read_answer_of : State → Option DriveView → ℕ → Result ℕ Refusal
 read_answer_of s v n =
     at_register (register_numbered n) (Err refusal.NoRegister) (λ r. answered (read_refusal s.phase r) (read_byte s v r))
 
@@ -142,12 +128,12 @@ put_in (Busy j) s byte = s
 put_in (Offering m at) s byte = s
 put_in (Taking l at) s byte = put s l at byte
 
-abbrev pub begun_by : Option Command → State → DriveView → State
+abbrev pub begun_by : Option Command → State → Option DriveView → State
 begun_by None s v = s
 begun_by (Some c) s v = begun s c v
 
 -- what a write leaves: data are taken one by one, a command begins, any other byte is kept or dropped
-abbrev pub write_effect : State → DriveView → Register → ℕ → State
+abbrev pub write_effect : State → Option DriveView → Register → ℕ → State
 write_effect s v register.Data byte = put_in s.phase s byte
 write_effect s v register.Error byte = s
 write_effect s v register.Count byte = with_registers s (stored s.registers register.Count byte)
@@ -161,7 +147,7 @@ unfoldable pub write_answer_of : State → ℕ → ℕ → Result (Unit {0}) Ref
 write_answer_of s n byte =
     at_register (register_numbered n) (Err refusal.NoRegister) (λ r. answered (write_refusal s.phase r (command_of byte)) tt)
 
-unfoldable pub state_after_write : State → DriveView → ℕ → ℕ → State
+unfoldable pub state_after_write : State → Option DriveView → ℕ → ℕ → State
 state_after_write s v n byte =
     at_register (register_numbered n) s
     (λ r. unless_refused (write_refusal s.phase r (command_of byte)) s (write_effect s v r byte))

@@ -1,15 +1,14 @@
 -- The controller with what its drives mean, and what each call on it answers and leaves.
-use Rattle.std.specs.Prelude.{ℕ, Bool, true, false, Result}
+use Rattle.std.specs.Prelude.{◌≡◌, ℕ, Bool, true, false, Some, None, Option, Result}
 use Rattle.drive.specs.Model.{DriveModel}
 use Rattle.task_file.specs.declared.registers.Selection.{Selection}
-use Rattle.task_file.specs.declared.registers.Selection.TheVariants.{Winchester, Floppy, NoDrive}
+use Rattle.task_file.specs.declared.registers.Selection.TheVariants.{Winchester, Floppy}
 use Rattle.task_file.specs.declared.state.Phase.{Phase}
 use Rattle.task_file.specs.declared.state.Phase.TheVariants.{Rest, Busy, Offering, Taking}
 use Rattle.task_file.specs.declared.state.State.{State}
 use Rattle.task_file.specs.declared.view.DriveView.{DriveView}
 use Rattle.task_file.specs.Registers.{selected}
 use Rattle.task_file.specs.State.{fresh, reset, requests}
-use Rattle.task_file.specs.Aborting.{no_drive}
 use Rattle.controller.specs.declared.access.Refusal.{Refusal}
 use Rattle.controller.specs.declared.access.Lines.{Lines}
 use Rattle.controller.specs.declared.controller.Controller.{Controller}
@@ -28,6 +27,10 @@ model s w f = record { state = s; winchester = w; floppy = f }
 -- the model of a controller, by what the makes of its drives mean
 abbrev pub model_of : {W F : Type 0} → (W → DriveModel) → (F → DriveModel) → Controller W F → ControllerModel
 model_of w f c = model c.state (w c.winchester) (f c.floppy)
+
+-- a call that leaves both drives as they were, whatever their makes
+abbrev pub KeepsDrives : {W F : Type 0} → Controller W F → Controller W F → Type 0
+KeepsDrives old new = (new.winchester ≡ old.winchester) × (new.floppy ≡ old.floppy)
 
 -- with another state; the drives stay
 abbrev pub with_state : ControllerModel → State → ControllerModel
@@ -51,13 +54,13 @@ view_of floppy head d =
       capacity = d.capacity;
     }
 
-abbrev pub seen_at : Selection → ControllerModel → DriveView
-seen_at (Winchester head) b = view_of false head b.winchester
-seen_at (Floppy head) b = view_of true head b.floppy
-seen_at NoDrive b = no_drive
+abbrev pub seen_at : Option Selection → ControllerModel → Option DriveView
+seen_at (Some (Winchester head)) b = Some (view_of false head b.winchester)
+seen_at (Some (Floppy head)) b = Some (view_of true head b.floppy)
+seen_at None b = None
 
--- what is seen of the drive that SDH selects
-abbrev pub seen : ControllerModel → DriveView
+-- what is seen of the drive that SDH selects, if it selects one
+abbrev pub seen : ControllerModel → Option DriveView
 seen b = seen_at (selected b.state.registers.sdh) b
 
 -- the two lines
@@ -80,13 +83,13 @@ abbrev pub after_register_write : ControllerModel → ℕ → ℕ → Controller
 after_register_write b n byte = with_state b (state_after_write b.state (seen b) n byte)
 
 -- a turn: at rest and while bytes move it does nothing
-abbrev pub turned_in : Phase → Selection → ControllerModel → ControllerModel
+abbrev pub turned_in : Phase → Option Selection → ControllerModel → ControllerModel
 turned_in Rest sel b = b
-turned_in (Busy j) (Winchester head) b =
+turned_in (Busy j) (Some (Winchester head)) b =
     let t = worked j b.state head b.winchester in model t.state t.drive b.floppy
-turned_in (Busy j) (Floppy head) b =
+turned_in (Busy j) (Some (Floppy head)) b =
     let t = worked j b.state head b.floppy in model t.state b.winchester t.drive
-turned_in (Busy j) NoDrive b = with_state b (without_drive j b.state)
+turned_in (Busy j) None b = with_state b (without_drive j b.state)
 turned_in (Offering m at) sel b = b
 turned_in (Taking l at) sel b = b
 

@@ -2,7 +2,7 @@
 use Rattle.std.specs.Prelude.{ℕ, ◌+◌, min, cond, List, ◌==◌, nat_lt}
 use Rattle.drive.specs.declared.answers.SectorId.{SectorId}
 use Rattle.drive.specs.Model.{DriveModel}
-use Rattle.drive.specs.Calls.{stepped_in, stepped_out, read_answer, handed_over, after_read, write_answer, after_write, format_answer, after_format}
+use Rattle.drive.specs.Calls.{stepped_out, nearer, read_answer, handed_over, after_read, write_answer, after_write, format_answer, after_format}
 use Rattle.task_file.specs.declared.failure.Failure.TheVariants.{Aborted, TrackZero}
 use Rattle.task_file.specs.declared.state.ReadJob.{ReadJob}
 use Rattle.task_file.specs.declared.state.WriteJob.{WriteJob}
@@ -27,10 +27,6 @@ abbrev pub restore_turn : State → ℕ → DriveModel → Turned
 restore_turn s steps d =
     cond (d.cylinder == 0) (turned (ended s) d)
     (cond (nat_lt steps 1024) (turned (with_phase s (Busy (Restore (steps + 1)))) (stepped_out d)) (turned (failed s TrackZero) d))
-
--- one step toward a cylinder
-abbrev pub nearer : DriveModel → ℕ → DriveModel
-nearer d cylinder = cond (nat_lt d.cylinder cylinder) (stepped_in d) (cond (nat_lt cylinder d.cylinder) (stepped_out d) d)
 
 -- a step toward the registers' cylinder, and on the turn that finds it the act
 abbrev pub once_there : State → DriveModel → Turned → Turned

@@ -1,20 +1,28 @@
 // What an access answers.
 ghost use Rattle.std.specs.Prelude.{◌≡◌};
+ghost use Rattle.controller.specs.declared.access.Refusal.TheVariants.{NoRegister, NoCommand};
 ghost use Rattle.controller.specs.Access.{refusal_number};
 
-// Why an access is refused.
-#[derive(Clone, Copy, PartialEq, Eq, Debug)]
+use std::fmt;
+use task_file::{NoSuchCommand, NoSuchRegister};
+use thiserror::Error;
+
+// Why an access is refused, by its number.
+#[derive(Clone, Copy, PartialEq, Eq, Debug, Error)]
 pub enum Refusal {
-    // There is no register of this number.
-    NoRegister,
-    // BUSY is on, and this is no status read.
-    Busy,
+    #[error("there is no register of this number")]
+    NoRegister = 1,
+    // This is no status read.
+    #[error("the controller is busy")]
+    Busy = 2,
     // DRQ is off, or bytes move the other way.
-    NoDataRequest,
+    #[error("no data are asked for")]
+    NoDataRequest = 3,
     // A register is written while DRQ is on.
-    DataRequest,
-    // The byte is no command.
-    NoCommand,
+    #[error("data are asked for")]
+    DataRequest = 4,
+    #[error("the byte is no command")]
+    NoCommand = 5,
 }
 
 // The two lines: data request and interrupt request.
@@ -24,17 +32,36 @@ pub struct Lines {
     pub intrq: bool,
 }
 
-impl Refusal {
-    // Its number.
-    pub fn number(self) -> u8
-        ensures { result ≡ refusal_number self }
-    {
-        match self {
-            Refusal::NoRegister => 1,
-            Refusal::Busy => 2,
-            Refusal::NoDataRequest => 3,
-            Refusal::DataRequest => 4,
-            Refusal::NoCommand => 5,
-        }
+impl fmt::Display for Lines {
+    fn fmt<W: fmt::Write>(&self, f: &mut fmt::Formatter<W>) -> fmt::Result {
+        let word = |on: bool| if on { "on" } else { "off" };
+        let request = word(self.drq);
+        let interrupt = word(self.intrq);
+        write!(f, "data request {request}, interrupt {interrupt}")
+    }
+}
+
+impl From<Refusal> for u8 {
+    ghost from_gives = { λ refusal number. number ≡ refusal_number refusal };
+
+    // The number of a refusal.
+    fn from(refusal: Refusal) -> u8 {
+        refusal as u8
+    }
+}
+
+impl From<NoSuchRegister> for Refusal {
+    ghost from_gives = { λ _ refusal. refusal ≡ NoRegister };
+
+    fn from(_error: NoSuchRegister) -> Refusal {
+        Refusal::NoRegister
+    }
+}
+
+impl From<NoSuchCommand> for Refusal {
+    ghost from_gives = { λ _ refusal. refusal ≡ NoCommand };
+
+    fn from(_error: NoSuchCommand) -> Refusal {
+        Refusal::NoCommand
     }
 }

@@ -2,14 +2,15 @@
 ghost use Rattle.std.specs.Prelude.{◌≡◌};
 ghost use Rattle.task_file.specs.Failures.{last_fault};
 ghost use Rattle.task_file.specs.State.{fresh, is_busy};
-ghost use Rattle.controller.specs.Model.{model_of, seen, view_of, lines_of, made, read_answered, after_register_read, write_answered, after_register_write, after_turn, after_reset};
+ghost use Rattle.controller.specs.Model.{model_of, KeepsDrives, seen, view_of, lines_of, made, read_answered, after_register_read, write_answered, after_register_write, after_turn, after_reset};
 
 use super::access::{Lines, Refusal};
 use super::turning::work;
 use drive::Drive;
 use task_file::{Command, DriveView, Failure, Fault, Job, Phase, Register, Selection, State};
 
-// A controller with Winchester 1 and floppy 1.
+// A controller with Winchester 1 and floppy 1. It has no `impl Model`: a proof has to tell the values of a model apart, and
+// what a drive means holds functions. So clauses name the model by `model_of`.
 #[derive(Drop)]
 pub struct Controller<W: Drive, F: Drive> {
     state: State,
@@ -19,7 +20,7 @@ pub struct Controller<W: Drive, F: Drive> {
 
 // What is seen of a drive under a head.
 fn view<D: Drive>(drive: &D, floppy: bool, head: u8) -> DriveView
-    ensures { result ≡ view_of floppy head (D.Drive.meaning drive.now) }
+    ensures { result ≡ view_of floppy head (D.meaning drive.now) }
 {
     DriveView {
         floppy,
@@ -35,7 +36,7 @@ fn view<D: Drive>(drive: &D, floppy: bool, head: u8) -> DriveView
 impl<W: Drive, F: Drive> Controller<W, F> {
     // A controller over two drives; it begins with Test.
     pub fn new(winchester: W, floppy: F) -> Self
-        ensures model { model_of W.Drive.meaning F.Drive.meaning result ≡ made (W.Drive.meaning winchester) (F.Drive.meaning floppy) }
+        ensures model { model_of W.meaning F.meaning result ≡ made (W.meaning winchester) (F.meaning floppy) }
         ensures winchester { result.winchester ≡ winchester }
         ensures floppy { result.floppy ≡ floppy }
     {
@@ -50,22 +51,17 @@ impl<W: Drive, F: Drive> Controller<W, F> {
     pub fn into_drives(self) -> (W, F)
         ensures { (result.0 ≡ self.winchester) × (result.1 ≡ self.floppy) }
     {
-        let Controller {
-            state: _,
-            winchester,
-            floppy,
-        } = self;
-        (winchester, floppy)
+        (self.winchester, self.floppy)
     }
 
-    // What is seen of the drive that SDH selects.
-    fn selected_view(&self) -> DriveView
-        ensures { result ≡ seen (model_of W.Drive.meaning F.Drive.meaning self.now) }
+    // What is seen of the drive that SDH selects, if it selects one. The two drives are of two types, so what is done to either
+    // stands here and in `turn` for both.
+    fn selected_view(&self) -> Option<DriveView>
+        ensures { result ≡ seen (model_of W.meaning F.meaning self.now) }
     {
-        match self.state.registers.selection() {
-            Selection::Winchester(head) => view(&self.winchester, false, head),
-            Selection::Floppy(head) => view(&self.floppy, true, head),
-            Selection::NoDrive => DriveView::none(),
+        match self.state.registers.selection()? {
+            Selection::Winchester(head) => Some(view(&self.winchester, false, head)),
+            Selection::Floppy(head) => Some(view(&self.floppy, true, head)),
         }
     }
 
@@ -96,13 +92,11 @@ impl<W: Drive, F: Drive> Controller<W, F> {
     // A register read.
     #[tactic(auto, unfolding(crate::specs::Access::read_answer_of, crate::specs::Access::state_after_read))]
     pub fn read_register(&mut self, number: u8) -> Result<u8, Refusal>
-        ensures answer { result ≡ read_answered (model_of W.Drive.meaning F.Drive.meaning self.old) number }
-        ensures after { model_of W.Drive.meaning F.Drive.meaning self.new ≡ after_register_read (model_of W.Drive.meaning F.Drive.meaning self.old) number }
-        ensures drives { (self.new.winchester ≡ self.old.winchester) × (self.new.floppy ≡ self.old.floppy) }
+        ensures answer { result ≡ read_answered (model_of W.meaning F.meaning self.old) number }
+        ensures after { model_of W.meaning F.meaning self.new ≡ after_register_read (model_of W.meaning F.meaning self.old) number }
+        ensures drives { KeepsDrives self.old self.new }
     {
-        let Some(register) = Register::numbered(number) else {
-            return Err(Refusal::NoRegister);
-        };
+        let register = Register::try_from(number)?;
         match (self.state.phase, register) {
             (Phase::Busy(_), Register::Status) => {
                 self.state.intrq = false;
@@ -128,13 +122,11 @@ impl<W: Drive, F: Drive> Controller<W, F> {
     // A register write.
     #[tactic(auto, unfolding(crate::specs::Access::write_answer_of, crate::specs::Access::state_after_write))]
     pub fn write_register(&mut self, number: u8, byte: u8) -> Result<(), Refusal>
-        ensures answer { result ≡ write_answered (model_of W.Drive.meaning F.Drive.meaning self.old) number byte }
-        ensures after { model_of W.Drive.meaning F.Drive.meaning self.new ≡ after_register_write (model_of W.Drive.meaning F.Drive.meaning self.old) number byte }
-        ensures drives { (self.new.winchester ≡ self.old.winchester) × (self.new.floppy ≡ self.old.floppy) }
+        ensures answer { result ≡ write_answered (model_of W.meaning F.meaning self.old) number byte }
+        ensures after { model_of W.meaning F.meaning self.new ≡ after_register_write (model_of W.meaning F.meaning self.old) number byte }
+        ensures drives { KeepsDrives self.old self.new }
     {
-        let Some(register) = Register::numbered(number) else {
-            return Err(Refusal::NoRegister);
-        };
+        let register = Register::try_from(number)?;
         match (self.state.phase, register) {
             (Phase::Busy(_), _) => Err(Refusal::Busy),
             (Phase::Taking(load, at), Register::Data) => {
@@ -143,9 +135,7 @@ impl<W: Drive, F: Drive> Controller<W, F> {
             }
             (_, Register::Data) => Err(Refusal::NoDataRequest),
             (_, Register::Status) => {
-                let Some(command) = Command::given_by(byte) else {
-                    return Err(Refusal::NoCommand);
-                };
+                let command = Command::try_from(byte)?;
                 let view = self.selected_view();
                 self.state.begin(command, view);
                 Ok(())
@@ -154,31 +144,31 @@ impl<W: Drive, F: Drive> Controller<W, F> {
                 self.state.registers.store(kept, byte);
                 Ok(())
             }
-            (_, _) => Err(Refusal::DataRequest),
+            _ => Err(Refusal::DataRequest),
         }
     }
 
     // One turn: one step or one attempt where a job is under way, and else nothing.
     pub fn turn(&mut self)
-        ensures { model_of W.Drive.meaning F.Drive.meaning self.new ≡ after_turn (model_of W.Drive.meaning F.Drive.meaning self.old) }
+        ensures { model_of W.meaning F.meaning self.new ≡ after_turn (model_of W.meaning F.meaning self.old) }
     {
         match (self.state.phase, self.state.registers.selection()) {
-            (Phase::Busy(job), Selection::Winchester(head)) => {
+            (Phase::Busy(job), Some(Selection::Winchester(head))) => {
                 work(&mut self.state, &mut self.winchester, job, head);
             }
-            (Phase::Busy(job), Selection::Floppy(head)) => {
+            (Phase::Busy(job), Some(Selection::Floppy(head))) => {
                 work(&mut self.state, &mut self.floppy, job, head);
             }
-            (Phase::Busy(Job::Test), Selection::NoDrive) => self.state.end(),
-            (Phase::Busy(_), Selection::NoDrive) => self.state.fail(Failure::Aborted),
-            (_, _) => {}
+            (Phase::Busy(Job::Test), None) => self.state.end(),
+            (Phase::Busy(_), None) => self.state.fail(Failure::Aborted),
+            _ => {}
         }
     }
 
     // A master reset: registers, lines and flags are cleared, and Test begins.
     pub fn master_reset(&mut self)
-        ensures after { model_of W.Drive.meaning F.Drive.meaning self.new ≡ after_reset (model_of W.Drive.meaning F.Drive.meaning self.old) }
-        ensures drives { (self.new.winchester ≡ self.old.winchester) × (self.new.floppy ≡ self.old.floppy) }
+        ensures after { model_of W.meaning F.meaning self.new ≡ after_reset (model_of W.meaning F.meaning self.old) }
+        ensures drives { KeepsDrives self.old self.new }
     {
         self.state.reset();
     }

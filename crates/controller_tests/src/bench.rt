@@ -1,17 +1,22 @@
 // What the tests of the controller share: boards, and scripts whose steps are taken on them.
 use check_code::{Crc, check_bytes};
 use controller::{Controller, Lines};
-use drive::{Bay, Drive};
+use drive::{Bay, Drive, Geometry, Place};
 use fault_table::{FaultEntry, FaultKind, FaultTable};
 use histories::{Answer, Call, finish, make_call};
-use image::{FloppyImage, WinchesterImage};
+use image::{FloppyImage, WinchesterImage, blank_memory, fitted};
 use sector::Burst;
 use std::alloc::Global;
+use std::fmt;
 use std::process::Abort;
 use std::test::Fail;
 use task_file::Fault;
 
-// One step of a script: what the host does, and what it must see.
+// A fault by its numbers: layer, error, cylinder, head, sector number and count of attempts.
+pub type FaultNumbers = (u8, u8, u16, u8, u8, u8);
+
+// One step of a script: what the host does, and what it must see. Registers, refusals and commands stand by number, as the
+// host has them: some of the numbers name none, and a type of registers or of commands could not hold those.
 #[derive(Clone, Copy)]
 pub enum Step {
     // The register of this number gives this byte.
@@ -40,10 +45,8 @@ pub enum Step {
     Lines(bool, bool),
     // The status is this byte and DRQ its bit 3; INTRQ is on or off before it is read, and off after that.
     Status(u8, bool),
-    // The last fault has this layer, error, cylinder, head, sector number and count of attempts.
-    Fault(u8, u8, u16, u8, u8, u8),
-    // There is no last fault.
-    NoFault,
+    // The last fault, if there is one, has these numbers.
+    Fault(Option<FaultNumbers>),
     // After a master reset, each of COMMANDS that is given with this SDH, count and cylinder leaves this status: 80h where it
     // runs, 58h where it takes bytes, and an odd one where it is aborted.
     Statuses(u8, u8, u16, [u8; 8]),
@@ -53,14 +56,7 @@ pub enum Step {
 const COMMANDS: [u8; 8] = [0x90, 0x10, 0x70, 0x20, 0x30, 0x50, 0x22, 0x32];
 
 // What an aborted command leaves as the last fault.
-const ABORTED: Fault = Fault {
-    layer: 1,
-    error: 4,
-    cylinder: 0,
-    head: 0,
-    number: 0,
-    attempts: 0,
-};
+const ABORTED: FaultNumbers = (1, 4, 0, 0, 0, 0);
 
 // A script: its name, whether the drives are protected, and its steps.
 pub type Script<'a> = (&'a str, bool, &'a [Step]);
@@ -68,15 +64,16 @@ pub type Script<'a> = (&'a str, bool, &'a [Step]);
 // A controller over a Winchester image under faults and a floppy image.
 type Board = Controller<FaultTable<Bay<WinchesterImage>>, Bay<FloppyImage>>;
 
-// Sector memory of so many bytes, whose first track has sectors 255, 0, 1, 2, 3, 4, 5 and 6 of 128 zeros; 2 is marked bad.
-fn memory(rt: &impl Abort, heap: Global, length: usize) -> Result<Vec<u8>, Fail> {
-    let mut memory = vec![in heap; 0u8; length]?;
+// Sector memory for an image of these measures, whose first track has sectors 255, 0, 1, 2, 3, 4, 5 and 6 of 128 zeros; 2 is
+// marked bad.
+fn memory(rt: &impl Abort, heap: Global, geometry: Geometry) -> Result<Vec<u8>, Fail> {
+    let mut memory = blank_memory(heap, geometry)?;
     assert!(rt; memory.len() >= 386);
     memory[0..2].copy_from_slice(&[8, 3]);
     memory[2..18].copy_from_slice(&[255, 0, 0, 0, 1, 0, 2, 0x80, 3, 0, 4, 0, 5, 0, 6, 0]);
     let zeros = check_bytes::<Crc>(&[0; 128]);
-    for (place, byte) in memory[130..162].iter_mut().enumerate() {
-        *byte = zeros[place % 4];
+    for check in memory[130..162].chunks_mut(4) {
+        check.copy_from_slice(&zeros);
     }
     Ok(memory)
 }
@@ -103,17 +100,33 @@ const FLAWS: &[(u16, u8, u8, FaultKind, u16, u16)] = &[
     (1, 1, 3, FaultKind::WrongBits, 0, 2),
 ];
 
-// A board that is made now: a Winchester of three cylinders and two heads, with room for 32,768 bytes on a track, under the
-// faults of FLAWS, and a floppy of two cylinders and one head, with room for 1,024.
+// The measures of the Winchester and of the floppy.
+const WINCHESTER: Geometry = Geometry {
+    cylinders: 3,
+    heads: 2,
+    capacity: 32768,
+};
+
+const FLOPPY: Geometry = Geometry {
+    cylinders: 2,
+    heads: 1,
+    capacity: 1024,
+};
+
+// A board that is made now: a Winchester under the faults of FLAWS, and a floppy.
 fn board(rt: &impl Abort, heap: Global, protected: bool) -> Result<Board, Fail> {
-    let large = memory(rt, heap, 198924)?;
-    let small = memory(rt, heap, 2820)?;
-    let mut table = FaultTable::over(WinchesterImage::new(3, 2, 32768, protected, large).bay);
+    let large = memory(rt, heap, WINCHESTER)?;
+    let small = memory(rt, heap, FLOPPY)?;
+    let winchester = fitted(WinchesterImage::new(WINCHESTER, protected, large));
+    let floppy = fitted(FloppyImage::new(FLOPPY, protected, small));
+    let mut table = FaultTable::over(winchester);
     for (cylinder, head, number, kind, first, attempts) in FLAWS {
         let _ = table.add(FaultEntry {
-            cylinder: *cylinder,
-            head: *head,
-            number: *number,
+            place: Place {
+                cylinder: *cylinder,
+                head: *head,
+                number: *number,
+            },
             kind: *kind,
             burst: Burst {
                 first: *first,
@@ -122,15 +135,19 @@ fn board(rt: &impl Abort, heap: Global, protected: bool) -> Result<Board, Fail> 
             attempts: *attempts,
         });
     }
-    let floppy = FloppyImage::new(2, 1, 1024, protected, small).bay;
     Ok(Controller::new(table, floppy))
 }
 
-// The number of the refusal, or 0.
-fn number_of(answer: Answer) -> u8 {
-    match answer {
-        Answer::Refused(refusal) => refusal.number(),
-        _ => 0,
+// The fault of these numbers.
+fn fault_of(numbers: FaultNumbers) -> Fault {
+    let (layer, error, cylinder, head, number, attempts) = numbers;
+    Fault {
+        layer,
+        error,
+        cylinder,
+        head,
+        number,
+        attempts,
     }
 }
 
@@ -141,230 +158,149 @@ struct Spot<'a> {
     step: usize,
 }
 
-// Makes a call, and has this answer.
-fn call<W: Drive, F: Drive>(
-    rt: &impl Abort,
-    at: Spot,
-    board: &mut Controller<W, F>,
-    call: Call,
-    answer: Answer,
-) {
-    assert_eq!(rt;
-        make_call(board, call),
-        answer,
-        "{}, step {}",
-        at.script,
-        at.step
-    );
-}
-
-// Makes a call so many times, and has this answer each time.
-fn call_often<W: Drive, F: Drive>(
-    rt: &impl Abort,
-    at: Spot,
-    board: &mut Controller<W, F>,
-    each: Call,
-    answer: Answer,
-    times: u16,
-) {
-    for _ in 0..times {
-        call(rt, at, board, each, answer);
+impl fmt::Display for Spot<'_> {
+    fn fmt<W: fmt::Write>(&self, f: &mut fmt::Formatter<W>) -> fmt::Result {
+        write!(f, "{}, step {}", self.script, self.step)
     }
 }
 
-// Makes a call that is refused, by the refusal of this number.
-fn refused<W: Drive, F: Drive>(
-    rt: &impl Abort,
-    at: Spot,
-    board: &mut Controller<W, F>,
-    call: Call,
-    why: u8,
-) {
-    assert_eq!(rt;
-        number_of(make_call(board, call)),
-        why,
-        "{}, step {}",
-        at.script,
-        at.step
-    );
+// A board on which a script is played, the handle that ends a test that fails, and where the test stands.
+#[derive(Drop)]
+struct Bench<'a, R: Abort, W: Drive, F: Drive> {
+    rt: &'a R,
+    board: &'a mut Controller<W, F>,
+    at: Spot<'a>,
 }
 
-// Reads registers 2 to 6.
-fn read_registers<W: Drive, F: Drive>(
-    rt: &impl Abort,
-    at: Spot,
-    board: &mut Controller<W, F>,
-    bytes: [u8; 5],
-) {
-    for number in 2..7u8 {
-        let byte = bytes[number as usize - 2];
-        call(rt, at, board, Call::Read(number), Answer::Byte(byte));
+impl<R: Abort, W: Drive, F: Drive> Bench<'_, R, W, F> {
+    // Makes a call, and has this answer.
+    fn call(&mut self, call: Call, answer: Answer) {
+        assert_eq!(self.rt; make_call(self.board, call), answer, "{}", self.at);
     }
-}
 
-// Turns until BUSY is off.
-fn turns<W: Drive, F: Drive>(rt: &impl Abort, at: Spot, board: &mut Controller<W, F>, count: u16) {
-    assert_eq!(rt; finish(board), count, "{}, step {}", at.script, at.step);
-}
-
-// Looks at the lines.
-fn lines<W: Drive, F: Drive>(
-    rt: &impl Abort,
-    at: Spot,
-    board: &Controller<W, F>,
-    drq: bool,
-    intrq: bool,
-) {
-    assert_eq!(rt;
-        board.lines(),
-        Lines { drq, intrq },
-        "{}, step {}",
-        at.script,
-        at.step
-    );
-}
-
-// Looks at the lines, and reads the status.
-fn read_status<W: Drive, F: Drive>(
-    rt: &impl Abort,
-    at: Spot,
-    board: &mut Controller<W, F>,
-    byte: u8,
-    intrq: bool,
-) {
-    let drq = byte / 8 % 2 == 1;
-    lines(rt, at, board, drq, intrq);
-    call(rt, at, board, Call::Read(7), Answer::Byte(byte));
-    lines(rt, at, board, drq, false);
-}
-
-// Looks at the last fault.
-fn last_fault<W: Drive, F: Drive>(
-    rt: &impl Abort,
-    at: Spot,
-    board: &Controller<W, F>,
-    fault: Option<Fault>,
-) {
-    assert_eq!(rt;
-        board.last_fault(),
-        fault,
-        "{}, step {}",
-        at.script,
-        at.step
-    );
-}
-
-// Resets the board, and gives a command with these registers.
-fn give_command<W: Drive, F: Drive>(
-    rt: &impl Abort,
-    at: Spot,
-    board: &mut Controller<W, F>,
-    registers: [u8; 5],
-    command: u8,
-) {
-    board.master_reset();
-    board.turn();
-    for number in 2..7u8 {
-        let byte = registers[number as usize - 2];
-        call(rt, at, board, Call::Write(number, byte), Answer::Done);
+    // Makes a call so many times, and has this answer each time.
+    fn call_often(&mut self, call: Call, answer: Answer, times: u16) {
+        for _ in 0..times {
+            self.call(call, answer);
+        }
     }
-    call(rt, at, board, Call::Write(7, command), Answer::Done);
-}
 
-// What shows after a command that left these registers and this status.
-fn has_left<W: Drive, F: Drive>(
-    rt: &impl Abort,
-    at: Spot,
-    board: &mut Controller<W, F>,
-    registers: [u8; 5],
-    status: u8,
-) {
-    let aborted = status % 2 == 1;
-    last_fault(rt, at, board, if aborted { Some(ABORTED) } else { None });
-    if status != 0x80 {
-        let error = if aborted { 4 } else { 0 };
-        call(rt, at, board, Call::Read(1), Answer::Byte(error));
-        read_registers(rt, at, board, registers);
+    // Makes a call that is refused, by the refusal of this number.
+    fn refused(&mut self, call: Call, why: u8) {
+        let answer = make_call(self.board, call).map_err(u8::from);
+        assert_eq!(self.rt; answer, Err(why), "{}", self.at);
     }
-    read_status(rt, at, board, status, aborted);
-}
 
-// Gives each of COMMANDS with this SDH, count and cylinder; Restore alone changes registers.
-fn leave_statuses<W: Drive, F: Drive>(
-    rt: &impl Abort,
-    at: Spot,
-    board: &mut Controller<W, F>,
-    sdh: u8,
-    count: u8,
-    cylinder: u16,
-    statuses: [u8; 8],
-) {
-    let [high, low] = cylinder.to_be_bytes();
-    for place in 0..8usize {
-        let command = COMMANDS[place];
-        give_command(rt, at, board, [count, 9, low, high, sdh], command);
-        let left = match command {
-            0x10 => [count, 9, 0, 0, sdh],
-            _ => [count, 9, low, high, sdh],
-        };
-        has_left(rt, at, board, left, statuses[place]);
+    // Reads registers 2 to 6.
+    fn read_registers(&mut self, bytes: [u8; 5]) {
+        for (number, byte) in (2..7u8).zip(bytes) {
+            self.call(Call::Read(number), Ok(Some(byte)));
+        }
     }
-}
 
-// Takes one step.
-fn take<W: Drive, F: Drive>(rt: &impl Abort, at: Spot, board: &mut Controller<W, F>, step: Step) {
-    match step {
-        Step::Read(number, byte) => call(rt, at, board, Call::Read(number), Answer::Byte(byte)),
-        Step::Write(number, byte) => {
-            call(rt, at, board, Call::Write(number, byte), Answer::Done);
+    // Turns until BUSY is off.
+    fn turns(&mut self, count: u16) {
+        assert_eq!(self.rt; finish(self.board), count, "{}", self.at);
+    }
+
+    // Looks at the lines.
+    fn lines(&self, drq: bool, intrq: bool) {
+        assert_eq!(self.rt; self.board.lines(), Lines { drq, intrq }, "{}", self.at);
+    }
+
+    // Looks at the lines, and reads the status.
+    fn read_status(&mut self, byte: u8, intrq: bool) {
+        let drq = byte / 8 % 2 == 1;
+        self.lines(drq, intrq);
+        self.call(Call::Read(7), Ok(Some(byte)));
+        self.lines(drq, false);
+    }
+
+    // Looks at the last fault.
+    fn last_fault(&self, fault: Option<FaultNumbers>) {
+        assert_eq!(self.rt; self.board.last_fault(), fault.map(fault_of), "{}", self.at);
+    }
+
+    // Gives a command.
+    fn give(&mut self, command: u8) {
+        self.call(Call::Write(7, command), Ok(None));
+    }
+
+    // Resets the board, and gives a command with these registers.
+    fn give_anew(&mut self, registers: [u8; 5], command: u8) {
+        self.board.master_reset();
+        self.board.turn();
+        for (number, byte) in (2..7u8).zip(registers) {
+            self.call(Call::Write(number, byte), Ok(None));
         }
-        Step::NoRead(number, why) => refused(rt, at, board, Call::Read(number), why),
-        Step::NoWrite(number, byte, why) => {
-            refused(rt, at, board, Call::Write(number, byte), why);
+        self.give(command);
+    }
+
+    // What shows after a command that left these registers and this status.
+    fn has_left(&mut self, registers: [u8; 5], status: u8) {
+        let aborted = status % 2 == 1;
+        self.last_fault(aborted.then_some(ABORTED));
+        if status != 0x80 {
+            let error = if aborted { 4 } else { 0 };
+            self.call(Call::Read(1), Ok(Some(error)));
+            self.read_registers(registers);
         }
-        Step::Registers(bytes) => read_registers(rt, at, board, bytes),
-        Step::Draw(byte, times) => {
-            call_often(rt, at, board, Call::Read(0), Answer::Byte(byte), times);
-        }
-        Step::Give(byte, times) => {
-            call_often(rt, at, board, Call::Write(0, byte), Answer::Done, times);
-        }
-        Step::Run(command, count) => {
-            call(rt, at, board, Call::Write(7, command), Answer::Done);
-            turns(rt, at, board, count);
-        }
-        Step::Turn => call(rt, at, board, Call::Turn, Answer::Done),
-        Step::Turns(count) => turns(rt, at, board, count),
-        Step::Reset => call(rt, at, board, Call::Reset, Answer::Done),
-        Step::Lines(drq, intrq) => lines(rt, at, board, drq, intrq),
-        Step::Status(byte, intrq) => read_status(rt, at, board, byte, intrq),
-        Step::Fault(layer, error, cylinder, head, number, attempts) => {
-            let fault = Fault {
-                layer,
-                error,
-                cylinder,
-                head,
-                number,
-                attempts,
+        self.read_status(status, aborted);
+    }
+
+    // Gives each of COMMANDS with this SDH, count and cylinder; Restore alone changes registers.
+    fn leave_statuses(&mut self, sdh: u8, count: u8, cylinder: u16, statuses: [u8; 8]) {
+        let [high, low] = cylinder.to_be_bytes();
+        for (command, status) in COMMANDS.into_iter().zip(statuses) {
+            self.give_anew([count, 9, low, high, sdh], command);
+            let left = match command {
+                0x10 => [count, 9, 0, 0, sdh],
+                _ => [count, 9, low, high, sdh],
             };
-            last_fault(rt, at, board, Some(fault));
+            self.has_left(left, status);
         }
-        Step::NoFault => last_fault(rt, at, board, None),
-        Step::Statuses(sdh, count, cylinder, statuses) => {
-            leave_statuses(rt, at, board, sdh, count, cylinder, statuses);
+    }
+
+    // Takes one step. A closure in each row of a script would be no plainer than this match: the rows are constants, and each
+    // kind of step takes other arguments.
+    fn take(&mut self, step: Step) {
+        match step {
+            Step::Read(number, byte) => self.call(Call::Read(number), Ok(Some(byte))),
+            Step::Write(number, byte) => self.call(Call::Write(number, byte), Ok(None)),
+            Step::NoRead(number, why) => self.refused(Call::Read(number), why),
+            Step::NoWrite(number, byte, why) => self.refused(Call::Write(number, byte), why),
+            Step::Registers(bytes) => self.read_registers(bytes),
+            Step::Draw(byte, times) => self.call_often(Call::Read(0), Ok(Some(byte)), times),
+            Step::Give(byte, times) => self.call_often(Call::Write(0, byte), Ok(None), times),
+            Step::Run(command, count) => {
+                self.give(command);
+                self.turns(count);
+            }
+            Step::Turn => self.call(Call::Turn, Ok(None)),
+            Step::Turns(count) => self.turns(count),
+            Step::Reset => self.call(Call::Reset, Ok(None)),
+            Step::Lines(drq, intrq) => self.lines(drq, intrq),
+            Step::Status(byte, intrq) => self.read_status(byte, intrq),
+            Step::Fault(fault) => self.last_fault(fault),
+            Step::Statuses(sdh, count, cylinder, statuses) => {
+                self.leave_statuses(sdh, count, cylinder, statuses);
+            }
         }
     }
 }
 
 // Takes the steps of a script, one after another.
-pub fn play<W: Drive, F: Drive>(
-    rt: &impl Abort,
-    script: &str,
-    board: &mut Controller<W, F>,
+pub fn play<'a, W: Drive, F: Drive>(
+    rt: &'a impl Abort,
+    script: &'a str,
+    board: &'a mut Controller<W, F>,
     steps: &[Step],
 ) {
+    let at = Spot { script, step: 0 };
+    let mut bench = Bench { rt, board, at };
     for (step, taken) in steps.iter().enumerate() {
-        take(rt, Spot { script, step }, board, *taken);
+        bench.at.step = step;
+        bench.take(*taken);
     }
 }
 

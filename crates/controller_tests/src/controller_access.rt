@@ -25,7 +25,7 @@ const ACCESSES: &[Step] = &[
     Step::Read(1, 0),
     Step::Registers([1, 255, 0, 4, 0x60]),
     Step::Status(0x50, false),
-    Step::NoFault,
+    Step::Fault(None),
     // while BUSY is on only the status is read
     Step::Write(7, 0x90),
     Step::NoRead(0, 2),
@@ -146,9 +146,9 @@ fn command_bytes(rt: HostRuntime) {
             Step::NoWrite(7, byte, 5)
         };
         let fault = if is_command(byte) && byte != 0x90 {
-            Step::Fault(1, 4, 0, 0, 0, 0)
+            Step::Fault(Some((1, 4, 0, 0, 0, 0)))
         } else {
-            Step::NoFault
+            Step::Fault(None)
         };
         let turns = Step::Turns(if byte == 0x90 { 1 } else { 0 });
         play(

@@ -1,18 +1,17 @@
 // A sheet's way through the sectors.
-ghost use Rattle.std.specs.Prelude.{◌≡◌, ◌≤◌, ◌++◌, length, take, IfOk, OnOk};
-ghost use Rattle.cue_sheet.specs.Damage.{damage, finds};
-ghost use Rattle.cue_sheet.specs.Journey.{Arrived, noted_of};
+ghost use Rattle.std.specs.Prelude.{◌≡◌, ◌≤◌, ◌++◌, IfOk, OnOk};
+ghost use Rattle.cue_sheet.specs.Damage.{damage};
+ghost use Rattle.cue_sheet.specs.Journey.{Arrived, noted_of, sector_with};
 
 use super::damage::damage_of;
-use burst::{Correction, correct};
+use burst::{CorrectionError, correct};
 use check_code::{Ecc, check_bytes};
 use sector::{Burst, invert_burst};
-use std::alloc::{AllocError, AllocFailed, Global};
-use std::error::Error;
-use std::fmt;
+use std::alloc::{AllocError, Global};
+use thiserror::Error;
 
-// The bytes of a sector, by its size.
-const SECTOR: usize = 512;
+// The bytes of a sector, by its size. Records on drives have their own constant: neither crate stands on the other.
+pub const SECTOR: usize = 512;
 
 // A burst that was found in a sector.
 #[derive(Clone, Copy)]
@@ -29,36 +28,20 @@ pub struct Journey {
     pub bursts: Vec<Found>,
 }
 
-// Why a journey could not be made.
-#[derive(Debug, Drop)]
+// Why a journey could not be made. The sheet stays as it was.
+#[derive(Debug, Drop, Error)]
 pub enum JourneyError {
-    // There was no memory for the script or for the list of bursts. The sheet stays as it was.
-    OutOfMemory,
-}
-
-impl fmt::Display for JourneyError {
-    fn fmt<W: fmt::Write>(&self, f: &mut fmt::Formatter<W>) -> fmt::Result {
-        write!(f, "out of memory for the script")
-    }
-}
-
-impl Error for JourneyError {}
-
-impl From<AllocError> for JourneyError {
-    fn from(_error: AllocError) -> JourneyError {
-        JourneyError::OutOfMemory
-    }
-}
-
-impl<T: Drop> From<AllocFailed<T>> for JourneyError {
-    fn from(_refused: AllocFailed<T>) -> JourneyError {
-        JourneyError::OutOfMemory
-    }
+    // There was no memory for the script or for the list of bursts.
+    #[error("out of memory for the script")]
+    OutOfMemory(#[from(alloc)] AllocError),
 }
 
 // Gives a sector its check bytes, damages both by the rule, and mends it: it comes back as it was.
-pub fn carry_sector(bytes: &mut [u8; 512], number: usize) -> Correction
-    ensures found { result ≡ finds (damage number) }
+pub fn carry_sector(
+    bytes: &mut [u8; SECTOR],
+    number: usize,
+) -> Result<Option<Burst>, CorrectionError>
+    ensures found { result ≡ Ok (damage number) }
     ensures back { bytes.new ≡ bytes.old }
 {
     let mut check = check_bytes::<Ecc>(bytes);
@@ -69,21 +52,25 @@ pub fn carry_sector(bytes: &mut [u8; 512], number: usize) -> Correction
     correct(bytes, check)
 }
 
-// One sector's bytes: a part of the sheet, and zeros after it.
-fn loaded(part: &[u8]) -> [u8; 512]
-    requires { length part.now ≤ 512 }
-    ensures { take (length part.now) result ≡ part.now }
+// One sector's bytes: a part of the sheet, of which no more than a sector counts, and zeros after it.
+pub fn loaded(part: &[u8]) -> [u8; SECTOR]
+    ensures { result ≡ sector_with part.now }
 {
     let mut bytes = [0u8; SECTOR];
-    bytes[0..part.len()].copy_from_slice(part);
+    let length = part.len().min(SECTOR);
+    bytes[..length].copy_from_slice(&part[..length]);
     bytes
 }
 
 // Notes the burst that was found in a sector, if one was.
-fn note(bursts: &mut Vec<Found>, sector: usize, found: Correction) -> Result<(), JourneyError>
+fn note(
+    bursts: &mut Vec<Found>,
+    sector: usize,
+    found: Result<Option<Burst>, CorrectionError>,
+) -> Result<(), JourneyError>
     ensures { OnOk result (bursts.new.items ≡ bursts.old.items ++ noted_of sector found) }
 {
-    if let Correction::Mended(burst) = found {
+    if let Ok(Some(burst)) = found {
         bursts.push(Found { sector, burst })?;
     }
     Ok(())
@@ -95,18 +82,15 @@ pub fn carry(heap: Global, sheet: &[u8]) -> Result<Journey, JourneyError>
 {
     let mut script = Vec::new(heap);
     let mut bursts = Vec::new(heap);
-    let sectors = sheet.len().div_ceil(SECTOR);
-    for sector in 0..sectors {
-        let start = sector * SECTOR;
-        let length = (sheet.len() - start).min(SECTOR);
-        let mut bytes = loaded(&sheet[start..start + length]);
+    for (sector, part) in sheet.chunks(SECTOR).enumerate() {
+        let mut bytes = loaded(part);
         let found = carry_sector(&mut bytes, sector);
         note(&mut bursts, sector, found)?;
-        script.extend_from_slice(&bytes[0..length])?;
+        script.extend_from_slice(&bytes[..part.len()])?;
     }
     Ok(Journey {
         script,
-        sectors,
+        sectors: sheet.len().div_ceil(SECTOR),
         bursts,
     })
 }

@@ -5,10 +5,12 @@
 // comparison tells the first line that differs, if one does.
 #![tactic(auto)]
 
+mod comparison;
 mod damage;
 mod journey;
 mod lines;
 
-pub use damage::damage_of;
-pub use journey::{Found, Journey, JourneyError, carry, carry_sector};
+pub use comparison::Comparison;
+pub use damage::{burst_of, damage_of};
+pub use journey::{Found, Journey, JourneyError, SECTOR, carry, carry_sector, loaded};
 pub use lines::{count_lines, first_difference};

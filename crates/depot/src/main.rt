@@ -6,61 +6,27 @@
 
 mod faults;
 mod fetching;
-mod fitting;
 mod keeping;
 
-use anyhow::anyhow;
-use cue_sheet::{count_lines, first_difference};
-use drive::Bay;
 use fault_table::FaultTable;
+use faults::FAULTS;
 use fetching::fetch;
-use fitting::{Measures, asked_for};
-use image::WinchesterImage;
-use keeping::{grid_of, prepare, store};
-use std::io;
-use std::io::Read;
-
-// Compares the script with the sheet, and tells the first line that differs.
-fn print_comparison(rt: &HostRuntime, sheet: &[u8], script: &[u8]) -> io::Result<()> {
-    let lines = count_lines(script);
-    println!(rt; "script: {lines} lines")?;
-    match first_difference(sheet, script) {
-        None => println!(rt; "sheet and script match, line for line"),
-        Some(line) => println!(rt; "sheet and script differ, first in line {line}"),
-    }
-}
-
-// The image in its bay, or the refusal's words.
-fn fitted(rt: &HostRuntime, m: Measures) -> anyhow::Result<Bay<WinchesterImage>> {
-    let tracks = m.cylinders as usize * m.heads as usize;
-    let length = tracks.saturating_mul(386 + m.capacity.min(65_536) as usize);
-    let memory = vec![in rt.alloc(); 0u8; length]?;
-    let fitting = WinchesterImage::new(m.cylinders, m.heads, m.capacity, false, memory);
-    let refusal = fitting.refusal;
-    match refusal {
-        None => Ok(fitting.bay),
-        Some(why) => {
-            let number = why.number();
-            println!(rt; "image refused: {number}, {why:?}")?;
-            Err(anyhow!("the image was refused"))
-        }
-    }
-}
+use keeping::{prepare, store};
+use program_parts::{asked_for, lay, print_comparison, read_sheet, winchester};
+use records::{Grid, RECORD};
 
 fn run(rt: &HostRuntime) -> anyhow::Result<()> {
-    let mut sheet = Vec::new(rt.alloc());
-    rt.stdin().read_to_end(&mut sheet)?;
-    let lines = count_lines(&sheet);
-    let bytes = sheet.len();
-    println!(rt; "sheet: {lines} lines, {bytes} bytes")?;
-    let mut bay = fitted(rt, asked_for(rt)?)?;
-    let grid = grid_of(&bay);
+    let sheet = read_sheet(rt)?;
+    let geometry = asked_for(rt, "depot")?;
+    let mut bay = winchester(rt, geometry)?;
+    let grid = Grid::from(geometry);
     prepare(rt, &mut bay, grid)?;
-    let records = store(rt, &mut bay, grid, &sheet)?;
+    let places = grid.places(rt.alloc(), sheet.len().div_ceil(RECORD))?;
+    store(rt, &mut bay, &places, &sheet)?;
     let mut table = FaultTable::over(bay);
-    faults::lay(rt, &mut table, grid, records)?;
-    let mut script = fetch(rt, &mut table, grid, records)?;
-    script.truncate(bytes);
+    lay(rt, &mut table, &places, FAULTS)?;
+    let mut script = fetch(rt, &mut table, &places)?;
+    script.truncate(sheet.len());
     print_comparison(rt, &sheet, &script)?;
     Ok(())
 }

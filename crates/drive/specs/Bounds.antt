@@ -8,6 +8,9 @@ pub record Measures : Type 0 where
   pub cylinders : ℕ
   pub heads : ℕ
 
+abbrev pub measures : ℕ → ℕ → Measures
+measures cylinders heads = record { cylinders = cylinders; heads = heads }
+
 -- what holds of a make's own most
 pub record Limits (most : Measures) : Type 0 where
   pub some_cylinder : 1 ≤ most.cylinders

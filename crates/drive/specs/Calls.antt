@@ -1,24 +1,27 @@
 -- What each call on a drive answers and leaves.
-use Rattle.std.specs.Prelude.{ℕ, ◌+◌, ◌-◌, ◌*◌, Bool, true, false, cond, not, ◌&&◌, List, ◌++◌, length, get_or, take, drop, Some, None, Option, nat_le, nat_lt, slice_index_or, slice_set}
+use Rattle.std.specs.Prelude.{ℕ, ◌+◌, ◌-◌, ◌*◌, cond, not, ◌&&◌, List, ◌++◌, length, get_or, take, drop, Some, None, Option, Ok, Err, Result, is_ok, replicate, nat_le, nat_lt, slice_index_or, slice_set}
 use Rattle.sector.specs.Bits.{inverted, from_bit}
 use Rattle.sector.specs.Sizes.{bytes_of}
 use Rattle.sector.specs.declared.size.SizeCode.{SizeCode}
 use Rattle.drive.specs.declared.buffer.SectorBuffer.{SectorBuffer}
 use Rattle.drive.specs.declared.answers.SectorId.{SectorId}
-use Rattle.drive.specs.declared.answers.Stepping.{Stepping}
-use Rattle.drive.specs.declared.answers.Stepping.TheVariants as stepping
-use Rattle.drive.specs.declared.answers.Reading.{Reading}
-use Rattle.drive.specs.declared.answers.Reading.TheVariants as reading
-use Rattle.drive.specs.declared.answers.Writing.{Writing}
-use Rattle.drive.specs.declared.answers.Writing.TheVariants as writing
-use Rattle.drive.specs.declared.answers.Formatting.{Formatting}
-use Rattle.drive.specs.declared.answers.Formatting.TheVariants as formatting
+use Rattle.drive.specs.declared.answers.NotReady.{NotReady}
+use Rattle.drive.specs.declared.answers.ReadError.{ReadError}
+use Rattle.drive.specs.declared.answers.ReadError.TheVariants as read_error
+use Rattle.drive.specs.declared.answers.WriteError.{WriteError}
+use Rattle.drive.specs.declared.answers.WriteError.TheVariants as write_error
+use Rattle.drive.specs.declared.answers.FormatError.{FormatError}
+use Rattle.drive.specs.declared.answers.FormatError.TheVariants as format_error
 use Rattle.drive.specs.Asking.{unless}
 use Rattle.drive.specs.Model.{Sector, no_sector, slot_of, rewritten, blank_track, Showing, no_id, no_data_mark, wrong_bits, used_up, sector, track, DriveModel, at_cylinder, with_outlook, with_track}
 
+-- what a call that hands nothing back answers where it is done
+abbrev pub done : {E : Type 0} → Result (Unit {0}) E
+done = Ok tt
+
 -- ---- steps
-unfoldable pub step_answer : DriveModel → Stepping
-step_answer d = unless d.ready stepping.NotReady stepping.Stepped
+unfoldable pub step_answer : DriveModel → Result (Unit {0}) NotReady
+step_answer d = unless d.ready (Err (record {})) done
 
 -- one cylinder in, or none at the last
 unfoldable pub stepped_in : DriveModel → DriveModel
@@ -27,6 +30,10 @@ stepped_in d = cond (d.ready && nat_lt (d.cylinder + 1) d.cylinders) (at_cylinde
 -- one cylinder out, or none at the first
 unfoldable pub stepped_out : DriveModel → DriveModel
 stepped_out d = cond (d.ready && nat_lt 0 d.cylinder) (at_cylinder d (d.cylinder - 1)) d
+
+-- one step toward a cylinder
+abbrev pub nearer : DriveModel → ℕ → DriveModel
+nearer d cylinder = cond (nat_lt d.cylinder cylinder) (stepped_in d) (cond (nat_lt cylinder d.cylinder) (stepped_out d) d)
 
 -- ---- attempts
 -- what an attempt comes to on a track: `missing` without a sector meant, `marked` where that one is marked bad,
@@ -54,16 +61,20 @@ abbrev pub attempted_at : DriveModel → ℕ → ℕ → DriveModel
 attempted_at d head number = with_outlook d (used_up d.outlook d.cylinder head number)
 
 -- what a read of a good sector answers
-abbrev pub read_of : Showing → Reading
-read_of no_id = reading.NoId
-read_of no_data_mark = reading.NoDataMark
-read_of (wrong_bits w) = reading.Delivered
+abbrev pub read_of : Showing → Result (Unit {0}) ReadError
+read_of no_id = Err read_error.NoId
+read_of no_data_mark = Err read_error.NoDataMark
+read_of (wrong_bits w) = done
 
-unfoldable pub read_answer : DriveModel → ℕ → ℕ → SizeCode → Reading
+unfoldable pub read_answer : DriveModel → ℕ → ℕ → SizeCode → Result (Unit {0}) ReadError
 read_answer d head number size =
-    unless d.ready reading.NotReady
-    (attempted (shown d head number) (track_under d head) number size reading.NoId reading.BadBlock
+    unless d.ready (Err read_error.NotReady)
+    (attempted (shown d head number) (track_under d head) number size (Err read_error.NoId) (Err read_error.BadBlock)
     (λ _. read_of (shown d head number)))
+
+-- a buffer of zeros
+abbrev pub blank_buffer : SectorBuffer
+blank_buffer = record { bytes = replicate 1024 0; check = replicate 4 0 }
 
 -- the buffer after a good sector was read: its bytes and check bytes, with the wrong bits inverted, over the front of what stood there
 abbrev pub delivered : Showing → Sector → SectorBuffer → SectorBuffer
@@ -84,12 +95,12 @@ handed_over d head number size b =
 unfoldable pub after_read : DriveModel → ℕ → ℕ → DriveModel
 after_read d head number = unless d.ready d (attempted_at d head number)
 
-unfoldable pub write_answer : DriveModel → ℕ → ℕ → SizeCode → Writing
+unfoldable pub write_answer : DriveModel → ℕ → ℕ → SizeCode → Result (Unit {0}) WriteError
 write_answer d head number size =
-    unless d.ready writing.NotReady
-    (unless (not d.protected) writing.Protected
-    (attempted (shown d head number) (track_under d head) number size writing.NoId writing.BadBlock
-    (λ _. writing.Written)))
+    unless d.ready (Err write_error.NotReady)
+    (unless (not d.protected) (Err write_error.Protected)
+    (attempted (shown d head number) (track_under d head) number size (Err write_error.NoId) (Err write_error.BadBlock)
+    (λ _. done)))
 
 -- the drive after a write reached the sector at slot k: it has the buffer's first bytes, as many as its size, and the check bytes
 abbrev pub written : DriveModel → ℕ → SizeCode → SectorBuffer → ℕ → DriveModel
@@ -109,25 +120,17 @@ after_write d head number size b =
 
 -- ---- formats
 -- the first thing that stands against a format, or that nothing does
-unfoldable pub format_answer : DriveModel → ℕ → List SectorId → SizeCode → Formatting
+unfoldable pub format_answer : DriveModel → ℕ → List SectorId → SizeCode → Result (Unit {0}) FormatError
 format_answer d head ids size =
-    unless d.ready formatting.NotReady
-    (unless (not d.protected) formatting.Protected
-    (unless (nat_lt head d.heads) formatting.BadHead
-    (unless (nat_le 1 (length ids) && nat_le (length ids) 64) formatting.BadCount
-    (unless (nat_le (length ids * bytes_of size) d.capacity) formatting.TooLong
-    formatting.Formatted))))
-
-abbrev pub is_formatted : Formatting → Bool
-is_formatted formatting.NotReady = false
-is_formatted formatting.Protected = false
-is_formatted formatting.BadHead = false
-is_formatted formatting.BadCount = false
-is_formatted formatting.TooLong = false
-is_formatted formatting.Formatted = true
+    unless d.ready (Err format_error.NotReady)
+    (unless (not d.protected) (Err format_error.Protected)
+    (unless (nat_lt head d.heads) (Err format_error.BadHead)
+    (unless (nat_le 1 (length ids) && nat_le (length ids) 64) (Err format_error.BadCount)
+    (unless (nat_le (length ids * bytes_of size) d.capacity) (Err format_error.TooLong)
+    done))))
 
 -- a format that nothing stands against replaces the track; any other changes nothing
 unfoldable pub after_format : DriveModel → ℕ → List SectorId → SizeCode → List ℕ → DriveModel
 after_format d head ids size check =
-    unless (is_formatted (format_answer d head ids size)) d
+    unless (is_ok (format_answer d head ids size)) d
     (with_track d head (blank_track ids size check) (track head ids size check))

@@ -1,41 +1,50 @@
-// What a drive answers, and what a format is given.
+// Why a drive refuses a call, and what a format is given.
+use thiserror::Error;
 
-// What a step answers.
-#[derive(Clone, Copy, PartialEq, Eq, Debug)]
-pub enum Stepping {
-    NotReady,
-    Stepped,
-}
+// A drive that is not ready answers nothing else.
+#[derive(Clone, Copy, PartialEq, Eq, Debug, Error)]
+#[error("the drive is not ready")]
+pub struct NotReady;
 
-// What a read attempt answers.
-#[derive(Clone, Copy, PartialEq, Eq, Debug)]
-pub enum Reading {
+// Why a read attempt hands nothing over.
+#[derive(Clone, Copy, PartialEq, Eq, Debug, Error)]
+pub enum ReadError {
+    #[error("the drive is not ready")]
     NotReady,
+    #[error("no sector has this ID")]
     NoId,
+    #[error("the sector is marked bad")]
     BadBlock,
+    #[error("the sector shows no data mark")]
     NoDataMark,
-    Delivered,
 }
 
-// What a write attempt answers.
-#[derive(Clone, Copy, PartialEq, Eq, Debug)]
-pub enum Writing {
+// Why a write attempt writes nothing.
+#[derive(Clone, Copy, PartialEq, Eq, Debug, Error)]
+pub enum WriteError {
+    #[error("the drive is not ready")]
     NotReady,
+    #[error("the drive is protected")]
     Protected,
+    #[error("no sector has this ID")]
     NoId,
+    #[error("the sector is marked bad")]
     BadBlock,
-    Written,
 }
 
-// What a format answers.
-#[derive(Clone, Copy, PartialEq, Eq, Debug)]
-pub enum Formatting {
+// Why a format is refused.
+#[derive(Clone, Copy, PartialEq, Eq, Debug, Error)]
+pub enum FormatError {
+    #[error("the drive is not ready")]
     NotReady,
+    #[error("the drive is protected")]
     Protected,
+    #[error("the drive has no such head")]
     BadHead,
+    #[error("a track has from 1 to 64 sectors")]
     BadCount,
+    #[error("the sectors do not fit on the track")]
     TooLong,
-    Formatted,
 }
 
 // The number and the bad mark that a format gives a sector.

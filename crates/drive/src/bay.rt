@@ -3,38 +3,37 @@ ghost use Rattle.drive.specs.Empty.{empty_model};
 ghost use Rattle.drive.specs.declared.bay.Bay.TheVariants.{Fitted, Empty};
 ghost use Rattle.std.proofs.Common.{rules};
 
-use super::answers::{Formatting, Reading, SectorId, Stepping, Writing};
+use super::answers::{FormatError, NotReady, ReadError, SectorId, WriteError};
 use super::buffer::SectorBuffer;
 use super::drive::Drive;
+use super::place::SectorAddress;
 use sector::SizeCode;
 
-// A bay with a drive, or without one: then it keeps the memory that came for it, which can be had back.
+// A bay with a drive, or without one: then it keeps the memory that came for it, which can be had back. It is no `Result`,
+// since a bay is a drive either way, and an empty one is no error.
 #[derive(Drop)]
 pub enum Bay<D: Drive> {
     Fitted(D),
     Empty(Vec<u8>),
 }
 
+// Each call takes and answers something else, so a match in each is plainer than one with a closure for either arm. An empty
+// bay answers what EmptyBay does: one value a call, which a call on an EmptyBay would say no shorter.
+#[tactic(auto, unfolding(crate::specs::Calls::step_answer, crate::specs::Calls::stepped_in, crate::specs::Calls::stepped_out, crate::specs::Calls::read_answer, crate::specs::Calls::handed_over, crate::specs::Calls::after_read, crate::specs::Calls::write_answer, crate::specs::Calls::after_write, crate::specs::Calls::format_answer, crate::specs::Calls::after_format))]
 impl<D: Drive> Drive for Bay<D> {
     const MOST_CYLINDERS: u16 = D::MOST_CYLINDERS;
 
+    ghost MOST_CYLINDERS = { D.MOST_CYLINDERS };
+
     const MOST_HEADS: u8 = D::MOST_HEADS;
 
-    ghost most = { D.Drive.most };
+    ghost MOST_HEADS = { D.MOST_HEADS };
 
-    ghost meaning = { λ b. elim b [ Fitted d ↦ D.Drive.meaning d | Empty memory ↦ empty_model memory.items ] };
+    ghost meaning = { λ b. elim b [ Fitted d ↦ D.meaning d | Empty memory ↦ empty_model memory.items ] };
 
     ghost limits = { Prim.search rules };
 
     ghost bounded = { Prim.search rules };
-
-    fn cylinder_limit() -> u16 {
-        D::cylinder_limit()
-    }
-
-    fn head_limit() -> u8 {
-        D::head_limit()
-    }
 
     fn cylinders(&self) -> u16 {
         match self {
@@ -78,38 +77,44 @@ impl<D: Drive> Drive for Bay<D> {
         }
     }
 
-    fn step_in(&mut self) -> Stepping {
+    fn step_in(&mut self) -> Result<(), NotReady> {
         match self {
             Bay::Fitted(drive) => drive.step_in(),
-            Bay::Empty(_) => Stepping::NotReady,
+            Bay::Empty(_) => Err(NotReady),
         }
     }
 
-    fn step_out(&mut self) -> Stepping {
+    fn step_out(&mut self) -> Result<(), NotReady> {
         match self {
             Bay::Fitted(drive) => drive.step_out(),
-            Bay::Empty(_) => Stepping::NotReady,
+            Bay::Empty(_) => Err(NotReady),
         }
     }
 
-    fn read(&mut self, head: u8, number: u8, size: SizeCode, buffer: &mut SectorBuffer) -> Reading {
+    fn read(&mut self, at: SectorAddress, buffer: &mut SectorBuffer) -> Result<(), ReadError> {
         match self {
-            Bay::Fitted(drive) => drive.read(head, number, size, buffer),
-            Bay::Empty(_) => Reading::NotReady,
+            Bay::Fitted(drive) => drive.read(at, buffer),
+            Bay::Empty(_) => Err(ReadError::NotReady),
         }
     }
 
-    fn write(&mut self, head: u8, number: u8, size: SizeCode, buffer: &SectorBuffer) -> Writing {
+    fn write(&mut self, at: SectorAddress, buffer: &SectorBuffer) -> Result<(), WriteError> {
         match self {
-            Bay::Fitted(drive) => drive.write(head, number, size, buffer),
-            Bay::Empty(_) => Writing::NotReady,
+            Bay::Fitted(drive) => drive.write(at, buffer),
+            Bay::Empty(_) => Err(WriteError::NotReady),
         }
     }
 
-    fn format(&mut self, head: u8, ids: &[SectorId], size: SizeCode, check: [u8; 4]) -> Formatting {
+    fn format(
+        &mut self,
+        head: u8,
+        ids: &[SectorId],
+        size: SizeCode,
+        check: [u8; 4],
+    ) -> Result<(), FormatError> {
         match self {
             Bay::Fitted(drive) => drive.format(head, ids, size, check),
-            Bay::Empty(_) => Formatting::NotReady,
+            Bay::Empty(_) => Err(FormatError::NotReady),
         }
     }
 }

@@ -3,35 +3,31 @@ ghost use Rattle.std.specs.Prelude.{[]};
 ghost use Rattle.drive.specs.Empty.{empty_model};
 ghost use Rattle.std.proofs.Common.{rules};
 
-use super::answers::{Formatting, Reading, SectorId, Stepping, Writing};
+use super::answers::{FormatError, NotReady, ReadError, SectorId, WriteError};
 use super::buffer::SectorBuffer;
 use super::drive::Drive;
+use super::place::SectorAddress;
 use sector::SizeCode;
 
 // A bay without a drive: one cylinder, one head, no room on its track, never ready.
 #[derive(Clone, Copy, Debug)]
 pub struct EmptyBay;
 
+#[tactic(auto, unfolding(crate::specs::Calls::step_answer, crate::specs::Calls::stepped_in, crate::specs::Calls::stepped_out, crate::specs::Calls::read_answer, crate::specs::Calls::handed_over, crate::specs::Calls::after_read, crate::specs::Calls::write_answer, crate::specs::Calls::after_write, crate::specs::Calls::format_answer, crate::specs::Calls::after_format))]
 impl Drive for EmptyBay {
     const MOST_CYLINDERS: u16 = 1;
 
+    ghost MOST_CYLINDERS = { 1 };
+
     const MOST_HEADS: u8 = 1;
 
-    ghost most = { record { cylinders = 1; heads = 1 } };
+    ghost MOST_HEADS = { 1 };
 
     ghost meaning = { λ _. empty_model [] };
 
     ghost limits = { Prim.search rules };
 
     ghost bounded = { Prim.search rules };
-
-    fn cylinder_limit() -> u16 {
-        Self::MOST_CYLINDERS
-    }
-
-    fn head_limit() -> u8 {
-        Self::MOST_HEADS
-    }
 
     fn cylinders(&self) -> u16 {
         1
@@ -57,32 +53,20 @@ impl Drive for EmptyBay {
         0
     }
 
-    fn step_in(&mut self) -> Stepping {
-        Stepping::NotReady
+    fn step_in(&mut self) -> Result<(), NotReady> {
+        Err(NotReady)
     }
 
-    fn step_out(&mut self) -> Stepping {
-        Stepping::NotReady
+    fn step_out(&mut self) -> Result<(), NotReady> {
+        Err(NotReady)
     }
 
-    fn read(
-        &mut self,
-        _head: u8,
-        _number: u8,
-        _size: SizeCode,
-        _buffer: &mut SectorBuffer,
-    ) -> Reading {
-        Reading::NotReady
+    fn read(&mut self, _at: SectorAddress, _buffer: &mut SectorBuffer) -> Result<(), ReadError> {
+        Err(ReadError::NotReady)
     }
 
-    fn write(
-        &mut self,
-        _head: u8,
-        _number: u8,
-        _size: SizeCode,
-        _buffer: &SectorBuffer,
-    ) -> Writing {
-        Writing::NotReady
+    fn write(&mut self, _at: SectorAddress, _buffer: &SectorBuffer) -> Result<(), WriteError> {
+        Err(WriteError::NotReady)
     }
 
     fn format(
@@ -91,7 +75,7 @@ impl Drive for EmptyBay {
         _ids: &[SectorId],
         _size: SizeCode,
         _check: [u8; 4],
-    ) -> Formatting {
-        Formatting::NotReady
+    ) -> Result<(), FormatError> {
+        Err(FormatError::NotReady)
     }
 }

@@ -3,36 +3,57 @@
 
 #[cfg(test)]
 mod tests {
-    use drive::{Bay, Drive, Formatting, Reading, SectorBuffer, SectorId, Writing};
-    use image::{FloppyImage, Refusal, WinchesterImage};
+    use drive::{
+        Bay, Drive, FormatError, Geometry, ReadError, SectorAddress, SectorBuffer, SectorId,
+        WriteError,
+    };
+    use image::{Floppy, FloppyImage, Image, Make, Refused, Winchester, WinchesterImage, fitted};
     use sector::SizeCode;
+    use std::alloc::Global;
+    use std::process::Abort;
     use std::test::Fail;
 
-    // Measures, the length of the memory, and the refusal's number, or 0.
-    #[derive(Clone, Copy)]
-    struct Asked {
-        cylinders: u16,
-        heads: u8,
-        capacity: u32,
-        length: usize,
-        number: u8,
-    }
-
-    const fn row(cylinders: u16, heads: u8, capacity: u32, length: usize, number: u8) -> Asked {
-        Asked {
+    const fn geometry(cylinders: u16, heads: u8, capacity: u32) -> Geometry {
+        Geometry {
             cylinders,
             heads,
             capacity,
-            length,
-            number,
         }
     }
 
-    fn number_of(refusal: Option<Refusal>) -> u8 {
-        match refusal {
-            Some(refusal) => refusal.number(),
-            None => 0,
+    // Measures, the length of the memory, and the refusal's number, if it is one.
+    #[derive(Clone, Copy)]
+    struct Asked {
+        geometry: Geometry,
+        length: usize,
+        number: Option<u8>,
+    }
+
+    // A row of the tables below, which have 0 where nothing is refused, since a column of numbers is easier to read.
+    const fn row(cylinders: u16, heads: u8, capacity: u32, length: usize, number: u8) -> Asked {
+        Asked {
+            geometry: geometry(cylinders, heads, capacity),
+            length,
+            number: if number == 0 { None } else { Some(number) },
         }
+    }
+
+    fn number_of<D>(made: &Result<D, Refused>) -> Option<u8> {
+        match made {
+            Ok(_) => None,
+            Err(refused) => Some(u8::from(refused.refusal)),
+        }
+    }
+
+    // Asks for an image of one make by each row.
+    fn ask<M: Make>(rt: &impl Abort, heap: Global, rows: &[Asked]) -> Result<(), Fail> {
+        for asked in rows {
+            let memory = vec![in heap; 0u8; asked.length]?;
+            let made = Image::<M>::new(asked.geometry, false, memory);
+            assert_eq!(rt; number_of(&made), asked.number);
+            assert_eq!(rt; fitted(made).is_ready(), asked.number.is_none());
+        }
+        Ok(())
     }
 
     #[test]
@@ -56,19 +77,7 @@ mod tests {
             row(1, 0, 0, 0, 7),
             row(1, 1, 0, 0, 8),
         ];
-        for asked in rows {
-            let memory = vec![in rt.alloc(); 0u8; asked.length]?;
-            let fitting = WinchesterImage::new(
-                asked.cylinders,
-                asked.heads,
-                asked.capacity,
-                false,
-                memory,
-            );
-            assert_eq!(rt; number_of(fitting.refusal), asked.number);
-            assert_eq!(rt; fitting.bay.is_ready(), asked.number == 0);
-        }
-        Ok(())
+        ask::<Winchester>(&rt, rt.alloc(), &rows)
     }
 
     #[test]
@@ -80,19 +89,15 @@ mod tests {
             row(1, 2, 128, 1028, 0),
             row(1, 2, 128, 514, 9),
         ];
-        for asked in rows {
-            let memory = vec![in rt.alloc(); 0u8; asked.length]?;
-            let fitting = FloppyImage::new(
-                asked.cylinders,
-                asked.heads,
-                asked.capacity,
-                false,
-                memory,
-            );
-            assert_eq!(rt; number_of(fitting.refusal), asked.number);
-            assert_eq!(rt; fitting.bay.is_ready(), asked.number == 0);
+        ask::<Floppy>(&rt, rt.alloc(), &rows)
+    }
+
+    const fn at(number: u8, size: SizeCode) -> SectorAddress {
+        SectorAddress {
+            head: 0,
+            number,
+            size,
         }
-        Ok(())
     }
 
     // The start of a record: count, size code, and the number and the mark of the first two sectors; what a read of sector 7 of
@@ -100,7 +105,7 @@ mod tests {
     #[derive(Clone, Copy)]
     struct Header {
         bytes: [u8; 6],
-        answer: Reading,
+        answer: Result<(), ReadError>,
     }
 
     #[test]
@@ -108,72 +113,71 @@ mod tests {
         let rows = [
             Header {
                 bytes: [1, 0, 7, 0, 0, 0],
-                answer: Reading::Delivered,
+                answer: Ok(()),
             },
             Header {
                 bytes: [2, 0, 9, 0, 7, 0],
-                answer: Reading::Delivered,
+                answer: Ok(()),
             },
             Header {
                 bytes: [1, 0, 7, 0x80, 0, 0],
-                answer: Reading::BadBlock,
+                answer: Err(ReadError::BadBlock),
             },
             Header {
                 bytes: [2, 0, 7, 0x80, 7, 0],
-                answer: Reading::BadBlock,
+                answer: Err(ReadError::BadBlock),
             },
             Header {
                 bytes: [2, 0, 7, 0, 7, 0x80],
-                answer: Reading::Delivered,
+                answer: Ok(()),
             },
             Header {
                 bytes: [1, 0, 9, 0, 7, 0],
-                answer: Reading::NoId,
+                answer: Err(ReadError::NoId),
             },
             Header {
                 bytes: [1, 3, 7, 0, 0, 0],
-                answer: Reading::NoId,
+                answer: Err(ReadError::NoId),
             },
             Header {
                 bytes: [0, 0, 7, 0, 0, 0],
-                answer: Reading::NoId,
+                answer: Err(ReadError::NoId),
             },
             Header {
                 bytes: [65, 0, 7, 0, 0, 0],
-                answer: Reading::NoId,
+                answer: Err(ReadError::NoId),
             },
             Header {
                 bytes: [1, 4, 7, 0, 0, 0],
-                answer: Reading::NoId,
+                answer: Err(ReadError::NoId),
             },
             Header {
                 bytes: [1, 0, 7, 1, 0, 0],
-                answer: Reading::NoId,
+                answer: Err(ReadError::NoId),
             },
             Header {
                 bytes: [2, 0, 7, 0, 0, 0x81],
-                answer: Reading::NoId,
+                answer: Err(ReadError::NoId),
             },
             Header {
                 bytes: [3, 0, 7, 0, 0, 0],
-                answer: Reading::NoId,
+                answer: Err(ReadError::NoId),
             },
         ];
         for header in rows {
             let mut memory = vec![in rt.alloc(); 0u8; 898]?;
             assert!(rt; memory.len() == 898);
             memory[0..6].copy_from_slice(&header.bytes);
-            let mut bay = WinchesterImage::new(1, 1, 512, false, memory).bay;
+            let mut bay = fitted(WinchesterImage::new(geometry(1, 1, 512), false, memory));
             let mut buffer = SectorBuffer {
                 bytes: [1; 1024],
                 check: [1; 4],
             };
             assert_eq!(rt;
-                bay.read(0, 7, SizeCode::Bytes256, &mut buffer),
+                bay.read(at(7, SizeCode::Bytes256), &mut buffer),
                 header.answer
             );
-            let delivered = header.answer == Reading::Delivered;
-            assert_eq!(rt; buffer.bytes[255] == 0, delivered);
+            assert_eq!(rt; buffer.bytes[255] == 0, header.answer.is_ok());
             assert_eq!(rt; buffer.bytes[256], 1);
         }
         Ok(())
@@ -189,7 +193,7 @@ mod tests {
     #[test]
     fn written_and_read_back(rt: HostRuntime) -> Result<(), Fail> {
         let memory = vec![in rt.alloc(); 9u8; 1796]?;
-        let mut bay = FloppyImage::new(2, 1, 512, false, memory).bay;
+        let mut bay = fitted(FloppyImage::new(geometry(2, 1, 512), false, memory));
         let ids = [
             SectorId {
                 number: 5,
@@ -200,37 +204,34 @@ mod tests {
                 bad: true,
             },
         ];
-        bay.step_in();
+        let _ = bay.step_in();
         assert_eq!(rt;
             bay.format(1, &ids, SizeCode::Bytes256, [1, 2, 3, 4]),
-            Formatting::BadHead
+            Err(FormatError::BadHead)
         );
         assert_eq!(rt;
             bay.format(0, &[], SizeCode::Bytes256, [1, 2, 3, 4]),
-            Formatting::BadCount
+            Err(FormatError::BadCount)
         );
         assert_eq!(rt;
             bay.format(0, &ids, SizeCode::Bytes512, [1, 2, 3, 4]),
-            Formatting::TooLong
+            Err(FormatError::TooLong)
         );
         assert_eq!(rt;
             bay.format(0, &ids, SizeCode::Bytes256, [1, 2, 3, 4]),
-            Formatting::Formatted
+            Ok(())
         );
         let mut buffer = SectorBuffer {
             bytes: [6; 1024],
             check: [7; 4],
         };
-        assert_eq!(rt; bay.write(0, 5, SizeCode::Bytes512, &buffer), Writing::NoId);
         assert_eq!(rt;
-            bay.write(0, 5, SizeCode::Bytes256, &buffer),
-            Writing::Written
+            bay.write(at(5, SizeCode::Bytes512), &buffer),
+            Err(WriteError::NoId)
         );
+        assert_eq!(rt; bay.write(at(5, SizeCode::Bytes256), &buffer), Ok(()));
         buffer.bytes = [8; 1024];
-        assert_eq!(rt;
-            bay.read(0, 5, SizeCode::Bytes256, &mut buffer),
-            Reading::Delivered
-        );
+        assert_eq!(rt; bay.read(at(5, SizeCode::Bytes256), &mut buffer), Ok(()));
         assert!(rt; buffer.bytes[255] == 6 && buffer.bytes[256] == 8 && buffer.check[3] == 7);
         let memory = memory_of(bay);
         assert!(rt; memory.len() == 1796);
@@ -260,18 +261,19 @@ mod tests {
     #[test]
     fn protected(rt: HostRuntime) -> Result<(), Fail> {
         let memory = vec![in rt.alloc(); 0u8; 514]?;
-        let mut bay = WinchesterImage::new(1, 1, 128, true, memory).bay;
-        let buffer = SectorBuffer {
-            bytes: [0; 1024],
-            check: [0; 4],
+        let mut bay = fitted(WinchesterImage::new(geometry(1, 1, 128), true, memory));
+        let beyond = SectorAddress {
+            head: 9,
+            number: 0,
+            size: SizeCode::Bytes128,
         };
         assert_eq!(rt;
-            bay.write(9, 0, SizeCode::Bytes128, &buffer),
-            Writing::Protected
+            bay.write(beyond, &SectorBuffer::zeroed()),
+            Err(WriteError::Protected)
         );
         assert_eq!(rt;
             bay.format(9, &[], SizeCode::Bytes128, [0; 4]),
-            Formatting::Protected
+            Err(FormatError::Protected)
         );
         Ok(())
     }

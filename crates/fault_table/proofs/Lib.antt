@@ -1,9 +1,8 @@
-pub mod Added
 pub mod Searched
+pub mod Held
 pub mod Covered
 pub mod Meant
 pub mod ReadUnder
 pub mod Attempted
 pub mod ReadCall
 pub mod WriteCall
-pub mod OtherCalls

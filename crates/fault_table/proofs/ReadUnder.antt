@@ -1,16 +1,16 @@
 -- What a read under the entries answers and hands over.
-use Rattle.std.proofs.Common.{All, ◌≡◌, ℕ, ◌*◌, true, false, cond, List, ◌++◌, length, get_or, take, drop, Some, None, Option, sym, refl, ap, ◌∙◌, ap₂}
+use Rattle.std.proofs.Common.{All, ◌≡◌, ℕ, ◌*◌, true, false, cond, List, ◌++◌, length, get_or, take, drop, Some, None, Option, Err, Result, sym, refl, ap, ◌∙◌, ap₂}
 use Rattle.std.proofs.lemmas.List.{take_at, drop_at}
 use Rattle.sector.specs.Bits.{BitSet, inverted, from_bit, both_of}
 use Rattle.sector.specs.Sizes.{bytes_of}
 use Rattle.sector.specs.declared.size.SizeCode.{SizeCode}
 use Rattle.sector.proofs.Inverted.{inverted_both, length-inverted}
 use Rattle.drive.specs.declared.buffer.SectorBuffer.{SectorBuffer}
-use Rattle.drive.specs.declared.answers.Reading.{Reading}
-use Rattle.drive.specs.declared.answers.Reading.TheVariants as reading
+use Rattle.drive.specs.declared.answers.ReadError.{ReadError}
+use Rattle.drive.specs.declared.answers.ReadError.TheVariants as read_error
 use Rattle.drive.specs.Model.{Sector, no_sector, slot_of, Showing, no_id, no_data_mark, wrong_bits}
 use Rattle.drive.specs.Bounds.{Whole}
-use Rattle.drive.specs.Calls.{on_slot, attempted, read_of, delivered}
+use Rattle.drive.specs.Calls.{done, on_slot, attempted, read_of, delivered}
 use Rattle.fault_table.specs.Faults.{unmarked, damaged}
 use Rattle.fault_table.specs.Under.{unmarked_answer, with_wrong_bits, damaged_buffer}
 use Rattle.fault_table.proofs.Meant.{meant_long}
@@ -28,13 +28,13 @@ attempted_map f (wrong_bits w) ss number size missing marked good = on_slot_map 
 
 module _ (ss : List Sector) (number : ℕ) (size : SizeCode) where
   -- ---- the answer under what is shown
-  abbrev pub answer_of : Showing → Reading
-  answer_of s = attempted s ss number size reading.NoId reading.BadBlock (λ _. read_of s)
+  abbrev pub answer_of : Showing → Result (Unit {0}) ReadError
+  answer_of s = attempted s ss number size (Err read_error.NoId) (Err read_error.BadBlock) (λ _. read_of s)
 
   pub unmarked_read : (s : Showing) → answer_of (unmarked s) ≡ unmarked_answer (answer_of s)
   unmarked_read no_id = refl
-  unmarked_read no_data_mark = on_slot_map unmarked_answer (slot_of ss number size) ss reading.NoId reading.BadBlock (λ _. reading.NoDataMark)
-  unmarked_read (wrong_bits w) = on_slot_map unmarked_answer (slot_of ss number size) ss reading.NoId reading.BadBlock (λ _. reading.Delivered)
+  unmarked_read no_data_mark = on_slot_map unmarked_answer (slot_of ss number size) ss (Err read_error.NoId) (Err read_error.BadBlock) (λ _. (Err read_error.NoDataMark))
+  unmarked_read (wrong_bits w) = on_slot_map unmarked_answer (slot_of ss number size) ss (Err read_error.NoId) (Err read_error.BadBlock) (λ _. done)
 
   pub damaged_read : (w : BitSet) (s : Showing) → answer_of (damaged w s) ≡ answer_of s
   damaged_read w no_id = refl
@@ -65,17 +65,17 @@ module _ (ss : List Sector) (number : ℕ) (size : SizeCode) where
       ∙ ap (λ (m : ℕ). inverted (from_bit (8 * m) w) (inverted (from_bit (8 * length s.bytes) v) s.check)) long in
       λ j. record { bytes = bytes j; check = check j }
 
-  on_damaged : (w v : BitSet) (b : SectorBuffer) (o : Option ℕ) → ((k : ℕ) → o ≡ Some k → length (get_or ss k no_sector).bytes ≡ bytes_of size) → on_slot o ss b b (λ k. delivered (wrong_bits (both_of v w)) (get_or ss k no_sector) b) ≡ damaged_buffer (on_slot o ss reading.NoId reading.BadBlock (λ _. reading.Delivered)) size w (on_slot o ss b b (λ k. delivered (wrong_bits v) (get_or ss k no_sector) b))
+  on_damaged : (w v : BitSet) (b : SectorBuffer) (o : Option ℕ) → ((k : ℕ) → o ≡ Some k → length (get_or ss k no_sector).bytes ≡ bytes_of size) → on_slot o ss b b (λ k. delivered (wrong_bits (both_of v w)) (get_or ss k no_sector) b) ≡ damaged_buffer (on_slot o ss (Err read_error.NoId) (Err read_error.BadBlock) (λ _. done)) size w (on_slot o ss b b (λ k. delivered (wrong_bits v) (get_or ss k no_sector) b))
   on_damaged w v b None long = refl
   on_damaged w v b (Some k) long =
       let s : Sector = get_or ss k no_sector in
-      elim s.bad as (λ x. cond x b (delivered (wrong_bits (both_of v w)) s b) ≡ damaged_buffer (cond x reading.BadBlock reading.Delivered) size w (cond x b (delivered (wrong_bits v) s b)))
+      elim s.bad as (λ x. cond x b (delivered (wrong_bits (both_of v w)) s b) ≡ damaged_buffer (cond x (Err read_error.BadBlock) done) size w (cond x b (delivered (wrong_bits v) s b)))
       [ true ↦ refl | false ↦ more_wrong w v s b (long k refl) ]
 
-  on_hidden : (w : BitSet) (b : SectorBuffer) (o : Option ℕ) → on_slot o ss b b (λ _. b) ≡ damaged_buffer (on_slot o ss reading.NoId reading.BadBlock (λ _. reading.NoDataMark)) size w (on_slot o ss b b (λ _. b))
+  on_hidden : (w : BitSet) (b : SectorBuffer) (o : Option ℕ) → on_slot o ss b b (λ _. b) ≡ damaged_buffer (on_slot o ss (Err read_error.NoId) (Err read_error.BadBlock) (λ _. (Err read_error.NoDataMark))) size w (on_slot o ss b b (λ _. b))
   on_hidden w b None = refl
   on_hidden w b (Some k) =
-      elim (get_or ss k no_sector).bad as (λ x. cond x b b ≡ damaged_buffer (cond x reading.BadBlock reading.NoDataMark) size w (cond x b b)) [ true ↦ refl | false ↦ refl ]
+      elim (get_or ss k no_sector).bad as (λ x. cond x b b ≡ damaged_buffer (cond x (Err read_error.BadBlock) (Err read_error.NoDataMark)) size w (cond x b b)) [ true ↦ refl | false ↦ refl ]
 
   pub damaged_hand : All Whole ss → (w : BitSet) (b : SectorBuffer) (s : Showing) → buffer_of b (damaged w s) ≡ damaged_buffer (answer_of s) size w (buffer_of b s)
   damaged_hand all w b no_id = refl

@@ -14,8 +14,8 @@ kind_number WrongBits = 3
 -- below 32, whatever its kind; its attempts are 1 to 65,535, where a u16 ends.
 abbrev pub in_range : FaultEntry → Bool
 in_range e =
-    nat_lt e.cylinder 1024
-    && (nat_lt e.head 8
+    nat_lt e.place.cylinder 1024
+    && (nat_lt e.place.head 8
     && (nat_lt e.burst.first 8224
     && (e.burst.pattern % 2 == 1
     && (nat_lt e.burst.pattern 32
@@ -23,7 +23,7 @@ in_range e =
 
 -- is it an entry of this place?
 abbrev pub of_place : ℕ → ℕ → ℕ → FaultEntry → Bool
-of_place c h n e = e.cylinder == c && (e.head == h && e.number == n)
+of_place c h n e = e.place.cylinder == c && (e.place.head == h && e.place.number == n)
 
 -- does it apply at this place? A used-up one is passed over
 abbrev pub applies_at : ℕ → ℕ → ℕ → FaultEntry → Bool
@@ -36,15 +36,7 @@ met c h n (e ∷ es) = cond (applies_at c h n e) (Some e) (met c h n es)
 
 -- an entry with one attempt less
 abbrev pub worn : FaultEntry → FaultEntry
-worn e =
-    record {
-      cylinder = e.cylinder;
-      head = e.head;
-      number = e.number;
-      kind = e.kind;
-      burst = e.burst;
-      attempts = e.attempts - 1;
-    }
+worn e = record e { attempts = e.attempts - 1 }
 
 -- the entries once an attempt is made at a place
 abbrev pub spent : ℕ → ℕ → ℕ → List FaultEntry → List FaultEntry

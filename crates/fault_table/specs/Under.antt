@@ -1,19 +1,16 @@
 -- What a read under an entry comes to, from what it comes to below.
-use Rattle.std.specs.Prelude.{◌*◌, ◌++◌, take, drop}
+use Rattle.std.specs.Prelude.{◌*◌, ◌++◌, take, drop, Ok, Err, Result}
 use Rattle.sector.specs.Bits.{BitSet, inverted, from_bit}
 use Rattle.sector.specs.Sizes.{bytes_of}
 use Rattle.sector.specs.declared.size.SizeCode.{SizeCode}
 use Rattle.drive.specs.declared.buffer.SectorBuffer.{SectorBuffer}
-use Rattle.drive.specs.declared.answers.Reading.{Reading}
-use Rattle.drive.specs.declared.answers.Reading.TheVariants as reading
+use Rattle.drive.specs.declared.answers.ReadError.{ReadError}
+use Rattle.drive.specs.declared.answers.ReadError.TheVariants.{NoDataMark}
 
 -- the answer where the data mark is hidden
-abbrev pub unmarked_answer : Reading → Reading
-unmarked_answer reading.NotReady = reading.NotReady
-unmarked_answer reading.NoId = reading.NoId
-unmarked_answer reading.BadBlock = reading.BadBlock
-unmarked_answer reading.NoDataMark = reading.NoDataMark
-unmarked_answer reading.Delivered = reading.NoDataMark
+abbrev pub unmarked_answer : Result (Unit {0}) ReadError → Result (Unit {0}) ReadError
+unmarked_answer (Ok u) = Err NoDataMark
+unmarked_answer (Err e) = Err e
 
 -- a sector in the buffer, with more bits wrong
 abbrev pub with_wrong_bits : SizeCode → BitSet → SectorBuffer → SectorBuffer
@@ -24,9 +21,6 @@ with_wrong_bits size w b =
     }
 
 -- the buffer after a read with this answer below: only a delivery puts a sector there
-abbrev pub damaged_buffer : Reading → SizeCode → BitSet → SectorBuffer → SectorBuffer
-damaged_buffer reading.NotReady size w b = b
-damaged_buffer reading.NoId size w b = b
-damaged_buffer reading.BadBlock size w b = b
-damaged_buffer reading.NoDataMark size w b = b
-damaged_buffer reading.Delivered size w b = with_wrong_bits size w b
+abbrev pub damaged_buffer : Result (Unit {0}) ReadError → SizeCode → BitSet → SectorBuffer → SectorBuffer
+damaged_buffer (Ok u) size w b = with_wrong_bits size w b
+damaged_buffer (Err e) size w b = b

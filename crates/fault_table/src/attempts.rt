@@ -6,39 +6,28 @@ ghost use Rattle.fault_table.specs.Entries.{hides_all};
 ghost use Rattle.fault_table.specs.Under.{unmarked_answer, with_wrong_bits, damaged_buffer};
 
 use super::entry::{FaultEntry, FaultKind};
-use drive::{Drive, Reading, SectorBuffer};
+use drive::{Drive, ReadError, SectorAddress, SectorBuffer};
 use sector::{Burst, SizeCode, invert_burst};
 
 // Does what an attempt meets keep it from the drive below?
 pub fn is_hidden(met: Option<FaultEntry>) -> bool
     ensures { result ≡ hides_all met }
 {
-    match met {
-        None => false,
-        Some(entry) => match entry.kind {
-            FaultKind::NoId => true,
-            FaultKind::NoDataMark => false,
-            FaultKind::WrongBits => false,
-        },
-    }
+    met.is_some_and(|entry| entry.kind == FaultKind::NoId)
 }
 
 // A read attempt under no data mark. What the drive below delivers goes nowhere.
-pub fn read_unmarked<D: Drive>(drive: &mut D, head: u8, number: u8, size: SizeCode) -> Reading
-    ensures answer { result ≡ unmarked_answer (read_answer (D.Drive.meaning drive.old) head number size) }
-    ensures after { D.Drive.meaning drive.new ≡ after_read (D.Drive.meaning drive.old) head number }
+pub fn read_unmarked<D: Drive>(drive: &mut D, at: SectorAddress) -> Result<(), ReadError>
+    ensures answer { result ≡ unmarked_answer (read_answer (D.meaning drive.old) at.head at.number at.size) }
+    ensures after { D.meaning drive.new ≡ after_read (D.meaning drive.old) at.head at.number }
 {
-    let mut aside = SectorBuffer {
-        bytes: [0; 1024],
-        check: [0; 4],
-    };
-    match drive.read(head, number, size, &mut aside) {
-        Reading::Delivered => Reading::NoDataMark,
-        answer => answer,
-    }
+    let mut aside = SectorBuffer::zeroed();
+    drive.read(at, &mut aside)?;
+    Err(ReadError::NoDataMark)
 }
 
-// Inverts a burst in the sector of this size that stands in the buffer, and in its check bytes.
+// Inverts a burst in the sector of this size that stands in the buffer, and in its check bytes. No call can lend a part of the
+// buffer's array for writing, so the part is taken here.
 fn damage(buffer: &mut SectorBuffer, size: SizeCode, burst: Burst)
     ensures { buffer.new ≡ with_wrong_bits size (marked burst.first burst.pattern) buffer.old }
 {
@@ -47,22 +36,18 @@ fn damage(buffer: &mut SectorBuffer, size: SizeCode, burst: Burst)
     invert_burst(&mut buffer.check, (8 * length) as u16, burst);
 }
 
-// A read attempt under wrong bits.
+// A read attempt under wrong bits. Each of the two says what a read of the drive below does, and adds its own.
 pub fn read_damaged<D: Drive>(
     drive: &mut D,
-    head: u8,
-    number: u8,
-    size: SizeCode,
+    at: SectorAddress,
     burst: Burst,
     buffer: &mut SectorBuffer,
-) -> Reading
-    ensures answer { result ≡ read_answer (D.Drive.meaning drive.old) head number size }
-    ensures handed { buffer.new ≡ damaged_buffer (read_answer (D.Drive.meaning drive.old) head number size) size (marked burst.first burst.pattern) (handed_over (D.Drive.meaning drive.old) head number size buffer.old) }
-    ensures after { D.Drive.meaning drive.new ≡ after_read (D.Drive.meaning drive.old) head number }
+) -> Result<(), ReadError>
+    ensures answer { result ≡ read_answer (D.meaning drive.old) at.head at.number at.size }
+    ensures handed { buffer.new ≡ damaged_buffer (read_answer (D.meaning drive.old) at.head at.number at.size) at.size (marked burst.first burst.pattern) (handed_over (D.meaning drive.old) at.head at.number at.size buffer.old) }
+    ensures after { D.meaning drive.new ≡ after_read (D.meaning drive.old) at.head at.number }
 {
-    let answer = drive.read(head, number, size, buffer);
-    if let Reading::Delivered = answer {
-        damage(buffer, size, burst);
-    }
-    answer
+    drive.read(at, buffer)?;
+    damage(buffer, at.size, burst);
+    Ok(())
 }

@@ -1,39 +1,67 @@
 // The entries of a fault table.
 ghost use Rattle.std.specs.Prelude.{◌≡◌};
-ghost use Rattle.fault_table.specs.Entries.{kind_number, in_range, applies_at};
+ghost use Rattle.fault_table.specs.Entries.{kind_number, in_range, applies_at, met, spent};
 
+use arrayvec::ArrayVec;
+use drive::{MOST_CYLINDERS, MOST_HEADS, Place};
 use sector::Burst;
+use std::fmt;
 
 // What an attempt meets: no ID, no data mark, or the burst's bits wrong.
 #[derive(Clone, Copy, PartialEq, Eq, Debug)]
 pub enum FaultKind {
-    NoId,
-    NoDataMark,
-    WrongBits,
+    NoId = 1,
+    NoDataMark = 2,
+    WrongBits = 3,
 }
 
-impl FaultKind {
-    // The number of this kind.
-    pub fn number(self) -> u8
-        ensures { result ≡ kind_number self }
-    {
-        match self {
-            FaultKind::NoId => 1,
-            FaultKind::NoDataMark => 2,
-            FaultKind::WrongBits => 3,
-        }
+impl From<FaultKind> for u8 {
+    ghost from_gives = { λ kind number. number ≡ kind_number kind };
+
+    fn from(kind: FaultKind) -> u8 {
+        kind as u8
     }
 }
 
 // A fault at a place, for a number of attempts.
-#[derive(Clone, Copy)]
+#[derive(Clone, Copy, PartialEq, Eq, Debug)]
 pub struct FaultEntry {
-    pub cylinder: u16,
-    pub head: u8,
-    pub number: u8,
+    pub place: Place,
     pub kind: FaultKind,
     pub burst: Burst,
     pub attempts: u16,
+}
+
+// Stands where a table has no entry yet, since ArrayVec asks for a value there. No kind of fault is the usual one, so it is not
+// derived.
+impl Default for FaultEntry {
+    fn default() -> FaultEntry {
+        FaultEntry {
+            place: Place {
+                cylinder: 0,
+                head: 0,
+                number: 0,
+            },
+            kind: FaultKind::NoId,
+            burst: Burst {
+                first: 0,
+                pattern: 0,
+            },
+            attempts: 0,
+        }
+    }
+}
+
+impl fmt::Display for FaultEntry {
+    fn fmt<W: fmt::Write>(&self, f: &mut fmt::Formatter<W>) -> fmt::Result {
+        match self.kind {
+            FaultKind::NoId => f.write_str("no ID")?,
+            FaultKind::NoDataMark => f.write_str("no data mark")?,
+            FaultKind::WrongBits => write!(f, "{}", self.burst)?,
+        }
+        let attempts = self.attempts;
+        write!(f, ", attempts: {attempts}")
+    }
 }
 
 impl FaultEntry {
@@ -41,8 +69,8 @@ impl FaultEntry {
     pub fn is_in_range(self) -> bool
         ensures { result ≡ in_range self }
     {
-        self.cylinder < 1024
-            && self.head < 8
+        self.place.cylinder < MOST_CYLINDERS
+            && self.place.head < MOST_HEADS
             && self.burst.first < 8224
             && self.burst.pattern % 2 == 1
             && self.burst.pattern < 32
@@ -50,9 +78,27 @@ impl FaultEntry {
     }
 
     // Does an attempt at this place meet the entry, when it meets none before it?
-    pub(crate) fn applies(self, cylinder: u16, head: u8, number: u8) -> bool
-        ensures { result ≡ applies_at cylinder head number self }
+    fn applies(self, place: Place) -> bool
+        ensures { result ≡ applies_at place.cylinder place.head place.number self }
     {
-        self.cylinder == cylinder && self.head == head && self.number == number && self.attempts > 0
+        self.place == place && self.attempts > 0
     }
+}
+
+// Room for the entries of a table.
+pub(crate) type Entries = ArrayVec<FaultEntry, 32>;
+
+// The entry that an attempt at a place meets, if any, as it is before the attempt; it then has one attempt less.
+pub(crate) fn spend(entries: &mut Entries, place: Place) -> Option<FaultEntry>
+    ensures value { result ≡ met place.cylinder place.head place.number entries.old.items }
+    ensures after { entries.new.items ≡ spent place.cylinder place.head place.number entries.old.items }
+{
+    for entry in entries.iter_mut() {
+        if entry.applies(place) {
+            let met = *entry;
+            entry.attempts -= 1;
+            return Some(met);
+        }
+    }
+    None
 }

@@ -6,7 +6,6 @@
 
 mod attempts;
 mod entry;
-mod list;
 mod refusal;
 mod table;
 

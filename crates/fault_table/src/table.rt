@@ -1,34 +1,37 @@
 // The fault table.
 ghost use Rattle.std.specs.Prelude.{◌≡◌, []};
 ghost use Rattle.fault_table.specs.Adding.{add_answer, after_add};
-ghost use Rattle.fault_table.specs.Held.{entries_of};
 ghost use Rattle.fault_table.specs.Faults.{with_faults};
 ghost use Rattle.std.proofs.Common.{rules};
 
 use super::attempts::{is_hidden, read_damaged, read_unmarked};
-use super::entry::{FaultEntry, FaultKind};
-use super::list::FaultList;
+use super::entry::{Entries, FaultEntry, FaultKind, spend};
 use super::refusal::AddRefusal;
-use drive::{Drive, Formatting, Reading, SectorBuffer, SectorId, Stepping, Writing};
+use drive::{
+    Drive, FormatError, NotReady, Place, ReadError, SectorAddress, SectorBuffer, SectorId,
+    WriteError,
+};
 use sector::SizeCode;
 
 // A drive under faults. Entries of a place apply one after another, in the order of adding, each for its number of attempts.
+// Used-up ones stay.
+// It has no `impl Model`, since what a drive means holds functions, so clauses name the meaning by `with_faults`.
 #[derive(Drop)]
 pub struct FaultTable<D: Drive> {
     drive: D,
-    faults: FaultList,
+    faults: Entries,
 }
 
 impl<D: Drive> FaultTable<D> {
     // A drive under no faults yet.
     pub fn over(drive: D) -> FaultTable<D>
         ensures drive { result.drive ≡ drive }
-        ensures entries { entries_of result.faults ≡ [] }
-        ensures meaning { with_faults (entries_of result.faults) (D.Drive.meaning result.drive) ≡ D.Drive.meaning drive }
+        ensures entries { result.faults.items ≡ [] }
+        ensures meaning { with_faults result.faults.items (D.meaning result.drive) ≡ D.meaning drive }
     {
         FaultTable {
             drive,
-            faults: FaultList::new(),
+            faults: Entries::new(),
         }
     }
 
@@ -42,35 +45,48 @@ impl<D: Drive> FaultTable<D> {
 
     // Adds an entry behind the others, unless there are 32 or it is out of range.
     pub fn add(&mut self, entry: FaultEntry) -> Result<(), AddRefusal>
-        ensures answer { result ≡ add_answer (entries_of self.old.faults) entry }
-        ensures entries { entries_of self.new.faults ≡ after_add (entries_of self.old.faults) entry }
+        ensures answer { result ≡ add_answer self.old.faults.items entry }
+        ensures entries { self.new.faults.items ≡ after_add self.old.faults.items entry }
         ensures drive { self.new.drive ≡ self.old.drive }
-        ensures meaning { with_faults (entries_of self.new.faults) (D.Drive.meaning self.new.drive) ≡ with_faults (after_add (entries_of self.old.faults) entry) (D.Drive.meaning self.old.drive) }
+        ensures meaning { with_faults self.new.faults.items (D.meaning self.new.drive) ≡ with_faults (after_add self.old.faults.items entry) (D.meaning self.old.drive) }
     {
-        self.faults.add(entry)
+        if self.faults.is_full() {
+            return Err(AddRefusal::TableFull);
+        }
+        if !entry.is_in_range() {
+            return Err(AddRefusal::OutOfRange);
+        }
+        self.faults.push(entry);
+        Ok(())
+    }
+
+    // The place that an attempt is made at.
+    fn place_of(&self, at: SectorAddress) -> Place
+        ensures { result ≡ record { cylinder = (D.meaning self.now.drive).cylinder; head = at.head; number = at.number } }
+    {
+        Place {
+            cylinder: self.drive.cylinder(),
+            head: at.head,
+            number: at.number,
+        }
     }
 }
 
+// Calls that no entry changes are handed to the drive below, each by itself: the language has no shorter way to say so.
 impl<D: Drive> Drive for FaultTable<D> {
     const MOST_CYLINDERS: u16 = D::MOST_CYLINDERS;
 
+    ghost MOST_CYLINDERS = { D.MOST_CYLINDERS };
+
     const MOST_HEADS: u8 = D::MOST_HEADS;
 
-    ghost most = { D.Drive.most };
+    ghost MOST_HEADS = { D.MOST_HEADS };
 
-    ghost meaning = { λ t. with_faults (entries_of t.faults) (D.Drive.meaning t.drive) };
+    ghost meaning = { λ t. with_faults t.faults.items (D.meaning t.drive) };
 
     ghost limits = { Prim.search rules };
 
     ghost bounded = { Prim.search rules };
-
-    fn cylinder_limit() -> u16 {
-        D::cylinder_limit()
-    }
-
-    fn head_limit() -> u8 {
-        D::head_limit()
-    }
 
     fn cylinders(&self) -> u16 {
         self.drive.cylinders()
@@ -96,46 +112,55 @@ impl<D: Drive> Drive for FaultTable<D> {
         self.drive.cylinder()
     }
 
-    fn step_in(&mut self) -> Stepping {
+    #[tactic(auto, unfolding(drive::specs::Calls::step_answer, drive::specs::Calls::stepped_in))]
+    fn step_in(&mut self) -> Result<(), NotReady> {
         self.drive.step_in()
     }
 
-    fn step_out(&mut self) -> Stepping {
+    #[tactic(auto, unfolding(drive::specs::Calls::step_answer, drive::specs::Calls::stepped_out))]
+    fn step_out(&mut self) -> Result<(), NotReady> {
         self.drive.step_out()
     }
 
-    fn read(&mut self, head: u8, number: u8, size: SizeCode, buffer: &mut SectorBuffer) -> Reading {
+    #[tactic(auto, unfolding(drive::specs::Calls::read_answer, drive::specs::Calls::handed_over, drive::specs::Calls::after_read))]
+    fn read(&mut self, at: SectorAddress, buffer: &mut SectorBuffer) -> Result<(), ReadError> {
         if !self.drive.is_ready() {
-            return Reading::NotReady;
+            return Err(ReadError::NotReady);
         }
-        let cylinder = self.drive.cylinder();
-        match self.faults.spend(cylinder, head, number) {
-            None => self.drive.read(head, number, size, buffer),
+        let place = self.place_of(at);
+        match spend(&mut self.faults, place) {
+            None => self.drive.read(at, buffer),
             Some(entry) => match entry.kind {
-                FaultKind::NoId => Reading::NoId,
-                FaultKind::NoDataMark => read_unmarked(&mut self.drive, head, number, size),
-                FaultKind::WrongBits => {
-                    read_damaged(&mut self.drive, head, number, size, entry.burst, buffer)
-                }
+                FaultKind::NoId => Err(ReadError::NoId),
+                FaultKind::NoDataMark => read_unmarked(&mut self.drive, at),
+                FaultKind::WrongBits => read_damaged(&mut self.drive, at, entry.burst, buffer),
             },
         }
     }
 
-    fn write(&mut self, head: u8, number: u8, size: SizeCode, buffer: &SectorBuffer) -> Writing {
+    #[tactic(auto, unfolding(drive::specs::Calls::write_answer, drive::specs::Calls::after_write))]
+    fn write(&mut self, at: SectorAddress, buffer: &SectorBuffer) -> Result<(), WriteError> {
         if !self.drive.is_ready() {
-            return Writing::NotReady;
+            return Err(WriteError::NotReady);
         }
         if self.drive.is_protected() {
-            return Writing::Protected;
+            return Err(WriteError::Protected);
         }
-        let cylinder = self.drive.cylinder();
-        if is_hidden(self.faults.spend(cylinder, head, number)) {
-            return Writing::NoId;
+        let place = self.place_of(at);
+        if is_hidden(spend(&mut self.faults, place)) {
+            return Err(WriteError::NoId);
         }
-        self.drive.write(head, number, size, buffer)
+        self.drive.write(at, buffer)
     }
 
-    fn format(&mut self, head: u8, ids: &[SectorId], size: SizeCode, check: [u8; 4]) -> Formatting {
+    #[tactic(auto, unfolding(drive::specs::Calls::format_answer, drive::specs::Calls::after_format))]
+    fn format(
+        &mut self,
+        head: u8,
+        ids: &[SectorId],
+        size: SizeCode,
+        check: [u8; 4],
+    ) -> Result<(), FormatError> {
         self.drive.format(head, ids, size, check)
     }
 }

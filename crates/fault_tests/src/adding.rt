@@ -1,25 +1,24 @@
 // Entries at both edges of each range, and the thirty-third.
-use drive::EmptyBay;
-use fault_table::{AddRefusal, FaultEntry, FaultKind, FaultTable};
+use drive::{Drive, EmptyBay, Place};
+use fault_table::{FaultEntry, FaultKind, FaultTable};
 use sector::Burst;
 
 const fn entry(cylinder: u16, head: u8, first: u16, pattern: u8, attempts: u16) -> FaultEntry {
     FaultEntry {
-        cylinder,
-        head,
-        number: 255,
+        place: Place {
+            cylinder,
+            head,
+            number: 255,
+        },
         kind: FaultKind::NoId,
         burst: Burst { first, pattern },
         attempts,
     }
 }
 
-// The number of the refusal, or 0.
-fn number_of(answer: Result<(), AddRefusal>) -> u8 {
-    match answer {
-        Ok(()) => 0,
-        Err(refusal) => refusal.number(),
-    }
+// Adds an entry, and tells the refusal by its number.
+fn add<D: Drive>(table: &mut FaultTable<D>, entry: FaultEntry) -> Result<(), u8> {
+    table.add(entry).map_err(u8::from)
 }
 
 // Entries that a table takes, and entries next to them that it refuses: whatever the kind, the burst is asked too.
@@ -43,10 +42,10 @@ fn ranges(rt: HostRuntime) {
     let mut table = FaultTable::over(EmptyBay);
     for kind in [FaultKind::NoId, FaultKind::NoDataMark, FaultKind::WrongBits] {
         for entry in taken {
-            assert_eq!(rt; number_of(table.add(FaultEntry { kind, ..entry })), 0);
+            assert_eq!(rt; add(&mut table, FaultEntry { kind, ..entry }), Ok(()));
         }
         for entry in refused {
-            assert_eq!(rt; number_of(table.add(FaultEntry { kind, ..entry })), 11);
+            assert_eq!(rt; add(&mut table, FaultEntry { kind, ..entry }), Err(11));
         }
     }
 }
@@ -56,17 +55,17 @@ fn ranges(rt: HostRuntime) {
 fn thirty_two(rt: HostRuntime) {
     let mut table = FaultTable::over(EmptyBay);
     for _ in 0..31 {
-        assert_eq!(rt; number_of(table.add(entry(0, 0, 0, 1, 1))), 0);
+        assert_eq!(rt; add(&mut table, entry(0, 0, 0, 1, 1)), Ok(()));
     }
-    assert_eq!(rt; number_of(table.add(entry(0, 0, 0, 1, 0))), 11);
-    assert_eq!(rt; number_of(table.add(entry(0, 0, 0, 1, 1))), 0);
-    assert_eq!(rt; number_of(table.add(entry(0, 0, 0, 1, 1))), 10);
-    assert_eq!(rt; number_of(table.add(entry(0, 0, 0, 1, 0))), 10);
+    assert_eq!(rt; add(&mut table, entry(0, 0, 0, 1, 0)), Err(11));
+    assert_eq!(rt; add(&mut table, entry(0, 0, 0, 1, 1)), Ok(()));
+    assert_eq!(rt; add(&mut table, entry(0, 0, 0, 1, 1)), Err(10));
+    assert_eq!(rt; add(&mut table, entry(0, 0, 0, 1, 0)), Err(10));
 }
 
 #[test]
 fn numbers(rt: HostRuntime) {
-    assert_eq!(rt; FaultKind::NoId.number(), 1);
-    assert_eq!(rt; FaultKind::NoDataMark.number(), 2);
-    assert_eq!(rt; FaultKind::WrongBits.number(), 3);
+    assert_eq!(rt; u8::from(FaultKind::NoId), 1);
+    assert_eq!(rt; u8::from(FaultKind::NoDataMark), 2);
+    assert_eq!(rt; u8::from(FaultKind::WrongBits), 3);
 }

@@ -1,7 +1,10 @@
 // What attempts show under entries.
-use drive::{Bay, Drive, EmptyBay, Reading, SectorBuffer, SectorId, Writing};
+use drive::{
+    Bay, Drive, EmptyBay, Geometry, Place, ReadError, SectorAddress, SectorBuffer, SectorId,
+    WriteError,
+};
 use fault_table::{FaultEntry, FaultKind, FaultTable};
-use image::WinchesterImage;
+use image::{WinchesterImage, fitted};
 use sector::{Burst, SizeCode};
 use std::alloc::Global;
 use std::process::Abort;
@@ -10,9 +13,11 @@ use std::test::Fail;
 // An entry at cylinder 0 and head 0, whose burst is in the first byte: a pattern of 1 makes a 0 there a 1, and one of 5 a 5.
 const fn entry(number: u8, kind: FaultKind, pattern: u8, attempts: u16) -> FaultEntry {
     FaultEntry {
-        cylinder: 0,
-        head: 0,
-        number,
+        place: Place {
+            cylinder: 0,
+            head: 0,
+            number,
+        },
         kind,
         burst: Burst {
             first: if pattern == 5 { 5 } else { 7 },
@@ -22,15 +27,17 @@ const fn entry(number: u8, kind: FaultKind, pattern: u8, attempts: u16) -> Fault
     }
 }
 
-const NONE: SectorBuffer = SectorBuffer {
-    bytes: [0; 1024],
-    check: [0; 4],
+const GEOMETRY: Geometry = Geometry {
+    cylinders: 2,
+    heads: 1,
+    capacity: 256,
 };
 
-// Two cylinders of one head, with sectors 1 and 2, of 128 zeros, at cylinder 0.
+// Two cylinders of one head, with sectors 1 and 2, of 128 zeros, at cylinder 0. A bay gives its image back, if it has one, by
+// a match here as in the tests of images: neither crate of tests stands on the other.
 fn formatted(heap: Global, protected: bool) -> Result<Bay<WinchesterImage>, Fail> {
     let memory = vec![in heap; 0u8; 1284]?;
-    let mut bay = WinchesterImage::new(2, 1, 256, false, memory).bay;
+    let mut bay = fitted(WinchesterImage::new(GEOMETRY, false, memory));
     let ids = [
         SectorId {
             number: 1,
@@ -46,31 +53,41 @@ fn formatted(heap: Global, protected: bool) -> Result<Bay<WinchesterImage>, Fail
         return Ok(bay);
     }
     match bay {
-        Bay::Fitted(image) => Ok(WinchesterImage::new(2, 1, 256, true, image.into_memory()).bay),
+        Bay::Fitted(image) => Ok(fitted(WinchesterImage::new(GEOMETRY, true, image.into_memory()))),
         Bay::Empty(memory) => Ok(Bay::Empty(memory)),
     }
 }
 
-// What a read attempt shows: i for no ID, m for no data mark, and the first byte of a delivery as a digit.
+// A sector of 128 bytes under head 0.
+const fn at(number: u8) -> SectorAddress {
+    SectorAddress {
+        head: 0,
+        number,
+        size: SizeCode::Bytes128,
+    }
+}
+
+// What a read attempt shows: i for no ID, m for no data mark, and the first byte of a delivery as a digit. The tests have a
+// letter for each attempt, so that a run of them reads as a word.
 fn read<D: Drive>(drive: &mut D, number: u8) -> u8 {
-    let mut buffer = NONE;
-    match drive.read(0, number, SizeCode::Bytes128, &mut buffer) {
-        Reading::NotReady => b'-',
-        Reading::NoId => b'i',
-        Reading::BadBlock => b'b',
-        Reading::NoDataMark => b'm',
-        Reading::Delivered => b'0'.wrapping_add(buffer.bytes[0]),
+    let mut buffer = SectorBuffer::zeroed();
+    match drive.read(at(number), &mut buffer) {
+        Ok(()) => b'0'.wrapping_add(buffer.bytes[0]),
+        Err(ReadError::NotReady) => b'-',
+        Err(ReadError::NoId) => b'i',
+        Err(ReadError::BadBlock) => b'b',
+        Err(ReadError::NoDataMark) => b'm',
     }
 }
 
 // What a write attempt with zeros shows: w where it wrote.
 fn write<D: Drive>(drive: &mut D, number: u8) -> u8 {
-    match drive.write(0, number, SizeCode::Bytes128, &NONE) {
-        Writing::NotReady => b'-',
-        Writing::Protected => b'p',
-        Writing::NoId => b'i',
-        Writing::BadBlock => b'b',
-        Writing::Written => b'w',
+    match drive.write(at(number), &SectorBuffer::zeroed()) {
+        Ok(()) => b'w',
+        Err(WriteError::NotReady) => b'-',
+        Err(WriteError::Protected) => b'p',
+        Err(WriteError::NoId) => b'i',
+        Err(WriteError::BadBlock) => b'b',
     }
 }
 
@@ -81,6 +98,7 @@ fn add<D: Drive>(table: &mut FaultTable<D>, entries: &[FaultEntry]) -> Result<()
     Ok(())
 }
 
+// A run of read attempts. That of write attempts below differs in the one call; a closure for it would say more than it saves.
 fn reads<D: Drive>(rt: &impl Abort, drive: &mut D, number: u8, shown: &[u8]) {
     for expected in shown {
         assert_eq!(rt; read(drive, number), *expected);
@@ -106,7 +124,11 @@ fn one_after_another(rt: HostRuntime) -> Result<(), Fail> {
             entry(1, FaultKind::NoId, 1, 2),
             entry(1, FaultKind::NoDataMark, 1, 1),
             FaultEntry {
-                cylinder: 1,
+                place: Place {
+                    cylinder: 1,
+                    head: 0,
+                    number: 1,
+                },
                 ..entry(1, FaultKind::NoId, 1, 1)
             },
             entry(1, FaultKind::WrongBits, 5, 1),
@@ -203,10 +225,10 @@ fn buffers(rt: HostRuntime) -> Result<(), Fail> {
         bytes: [9; 1024],
         check: [9; 4],
     };
-    let _ = table.read(0, 1, SizeCode::Bytes128, &mut buffer);
+    let _ = table.read(at(1), &mut buffer);
     assert_eq!(rt; buffer.bytes[0], 9);
     assert_eq!(rt; buffer.check[0], 9);
-    let _ = table.read(0, 1, SizeCode::Bytes128, &mut buffer);
+    let _ = table.read(at(1), &mut buffer);
     assert_eq!(rt; buffer.bytes[126], 0);
     assert_eq!(rt; buffer.bytes[127], 0b10);
     assert_eq!(rt; buffer.bytes[128], 9);

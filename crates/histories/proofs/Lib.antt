@@ -1,5 +1,3 @@
 pub mod Runs
-pub mod Drives
 pub mod Working
-pub mod Accesses
 pub mod Orders

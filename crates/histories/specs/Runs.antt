@@ -1,28 +1,36 @@
 -- Calls and their answers, and histories: lists of calls from the making of a controller on.
-use Rattle.std.specs.Prelude.{◌≡◌, ℕ, List, [], ◌∷◌, ◌++◌, Ok, Err, Result}
+use Rattle.std.specs.Prelude.{◌≡◌, ℕ, List, [], ◌∷◌, ◌++◌, Some, None, Ok, Err, Option, Result}
 use Rattle.drive.specs.Model.{DriveModel}
 use Rattle.controller.specs.declared.access.Refusal.{Refusal}
 use Rattle.controller.specs.Model.{ControllerModel, made, read_answered, after_register_read, write_answered, after_register_write, after_turn, after_reset}
 use Rattle.histories.specs.declared.call.Call.{Call}
 use Rattle.histories.specs.declared.call.Call.TheVariants.{Read, Write, Turn, Reset}
-use Rattle.histories.specs.declared.call.Answer.{Answer}
-use Rattle.histories.specs.declared.call.Answer.TheVariants.{Byte, Done, Refused}
 
 -- ---- one call
+-- an answer: the byte that was read, that the call is done, or why it was refused
+abbrev pub Answer : Type 0
+Answer = Result (Option ℕ) Refusal
+
+abbrev pub byte_read : ℕ → Answer
+byte_read byte = Ok (Some byte)
+
+abbrev pub done : Answer
+done = Ok None
+
 abbrev pub read_as : Result ℕ Refusal → Answer
-read_as (Ok byte) = Byte byte
-read_as (Err why) = Refused why
+read_as (Ok byte) = byte_read byte
+read_as (Err why) = Err why
 
 abbrev pub write_as : Result (Unit {0}) Refusal → Answer
-write_as (Ok done) = Done
-write_as (Err why) = Refused why
+write_as (Ok none) = done
+write_as (Err why) = Err why
 
 -- what a call answers
 abbrev pub answer_to : ControllerModel → Call → Answer
 answer_to b (Read number) = read_as (read_answered b number)
 answer_to b (Write number byte) = write_as (write_answered b number byte)
-answer_to b Turn = Done
-answer_to b Reset = Done
+answer_to b Turn = done
+answer_to b Reset = done
 
 -- what it leaves
 abbrev pub called : ControllerModel → Call → ControllerModel

@@ -32,7 +32,7 @@ under_way (Taking (Sector m) at) = Some (command.Write m)
 under_way (Taking Track at) = Some command.Format
 
 -- the command under way would not be aborted if it were given now
-abbrev pub Able : Option Command → Registers → DriveView → Type 0
+abbrev pub Able : Option Command → Registers → Option DriveView → Type 0
 Able None r v = Unit {0}
 Able (Some c) r v = aborts c r v ≡ false
 

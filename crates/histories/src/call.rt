@@ -17,36 +17,24 @@ pub enum Call {
     Reset,
 }
 
-// What a call answers.
-#[derive(Clone, Copy, PartialEq, Eq, Debug)]
-pub enum Answer {
-    // The byte that was read.
-    Byte(u8),
-    Done,
-    Refused(Refusal),
-}
+// What a call answers: the byte that a read gives, that any other call is done, or why an access is refused.
+pub type Answer = Result<Option<u8>, Refusal>;
 
 // Makes one call.
 pub fn make_call<W: Drive, F: Drive>(controller: &mut Controller<W, F>, call: Call) -> Answer
-    ensures answer { result ≡ answer_to (model_of W.Drive.meaning F.Drive.meaning controller.old) call }
-    ensures after { model_of W.Drive.meaning F.Drive.meaning controller.new ≡ called (model_of W.Drive.meaning F.Drive.meaning controller.old) call }
+    ensures answer { result ≡ answer_to (model_of W.meaning F.meaning controller.old) call }
+    ensures after { model_of W.meaning F.meaning controller.new ≡ called (model_of W.meaning F.meaning controller.old) call }
 {
     match call {
-        Call::Read(number) => match controller.read_register(number) {
-            Ok(byte) => Answer::Byte(byte),
-            Err(why) => Answer::Refused(why),
-        },
-        Call::Write(number, byte) => match controller.write_register(number, byte) {
-            Ok(()) => Answer::Done,
-            Err(why) => Answer::Refused(why),
-        },
+        Call::Read(number) => controller.read_register(number).map(Some),
+        Call::Write(number, byte) => controller.write_register(number, byte).map(|()| None),
         Call::Turn => {
             controller.turn();
-            Answer::Done
+            Ok(None)
         }
         Call::Reset => {
             controller.master_reset();
-            Answer::Done
+            Ok(None)
         }
     }
 }

@@ -1,34 +1,32 @@
 -- A track's record, as it is cut out of the memory.
-use Rattle.std.proofs.Common.{◌≡◌, ℕ, ◌+◌, ◌-◌, ◌<◌, ◌≤◌, List, length, get_or, take, drop, IfSome, Some, None, Option, Vec, sym, ap, ◌∙◌, subst, ap₂, inl, inr, ⊎_elim, arith}
+use Rattle.std.proofs.Common.{◌≡◌, ℕ, ◌+◌, ◌-◌, ◌<◌, ◌≤◌, List, length, get_or, take, drop, Vec, sym, ap, ◌∙◌, subst, ap₂, inl, inr, ⊎_elim, arith}
 use borrow.Rule.Slice.PartMut.{put_mid}
 use Rattle.std.specs.Vec.{with_items}
 use Rattle.std.proofs.lemmas.List.{with_items_is}
 use Rattle.std.proofs.lemmas.Bool.{cases_lt}
 use Rattle.drive.specs.Bounds.{Bytes}
-use Rattle.sector.specs.declared.size.SizeCode.{SizeCode}
 use Rattle.image.specs.Parts.{part, over}
-use Rattle.image.specs.Record.{Slot}
 use Rattle.image.specs.Image.{record_start, record_of}
-use Rattle.image.specs.Windows.{put_over, length_over, get_or-over_outside, get_or-over_inside}
+use Rattle.image.proofs.Windows.{put_over, length_over, get_or-over_outside, get_or-over_inside}
 
-module _ (heads t c h start : ℕ) (memory xs : List ℕ) (same : xs ≡ memory) (from : start ≡ record_start heads t c h) where
-  size_cut : (start + 386 + t) - start ≡ 386 + t
+module _ (heads t c h start end : ℕ) (memory xs : List ℕ) (same : xs ≡ memory) (from : start ≡ record_start heads t c h) (to : end ≡ start + (386 + t)) where
+  size_cut : end - start ≡ 386 + t
   size_cut = omega arith
 
   -- the part that is handed on
-  pub cut : take ((start + 386 + t) - start) (drop start xs) ≡ record_of heads t c h memory
+  pub cut : take (end - start) (drop start xs) ≡ record_of heads t c h memory
   cut =
       ap (λ (n : ℕ). take n (drop start xs)) size_cut
       ∙ ap₂ (λ (s : ℕ) (m : List ℕ). part s (386 + t) m) from same
 
   -- the memory once that part is written
-  pub put_back : (new : List ℕ) → length new ≡ 386 + t → put_mid start ((start + 386 + t) - start) xs new ≡ over (record_start heads t c h) new memory
+  pub put_back : (new : List ℕ) → length new ≡ 386 + t → put_mid start (end - start) xs new ≡ over (record_start heads t c h) new memory
   put_back new long =
-      put_over start (start + 386 + t) new xs (long ∙ sym size_cut) (omega arith)
+      put_over start end new xs (long ∙ sym size_cut) (omega arith)
       ∙ ap₂ (λ (s : ℕ) (m : List ℕ). over s new m) from same
 
   -- the same in a `Vec` that is lent whole for it
-  pub stored : {Z : Type 0} (v : Vec ℕ Z) → v.items ≡ memory → (new : List ℕ) → length new ≡ 386 + t → record_start heads t c h + (386 + t) ≤ length memory → (with_items v (put_mid start ((start + 386 + t) - start) xs new)).items ≡ over (record_start heads t c h) new memory
+  pub stored : {Z : Type 0} (v : Vec ℕ Z) → v.items ≡ memory → (new : List ℕ) → length new ≡ 386 + t → record_start heads t c h + (386 + t) ≤ length memory → (with_items v (put_mid start (end - start) xs new)).items ≡ over (record_start heads t c h) new memory
   stored v held new long room =
       let back = put_back new long in
       with_items_is v _
@@ -48,8 +46,3 @@ bytes_over a ys xs fits by bx i =
     (λ m. subst (λ (n : ℕ). n < 256) (sym (get_or-over_outside a ys xs i 0 fits (inr m))) (bx i))
     (cases_lt i (a + length ys)))
     (cases_lt i a)
-
--- a slot that was found in a part is one of the record that the part is
-pub found_in : (o : Option ℕ) (r s : List ℕ) (size : SizeCode) (P : Type 0) → P → r ≡ s → IfSome o (λ k. Slot r size k) → IfSome o (λ k. P × Slot s size k)
-found_in None r s size P p e f = tt
-found_in (Some k) r s size P p e f = (p, subst (λ (x : List ℕ). Slot x size k) e f)

@@ -9,12 +9,12 @@ use Rattle.sector.specs.Sizes.{bytes_of, number_of}
 use Rattle.sector.specs.declared.size.SizeCode.{SizeCode}
 use Rattle.drive.specs.declared.answers.SectorId.{SectorId}
 use Rattle.drive.specs.Model.{blank_sector, blank_track}
+use Rattle.image.specs.Holds.{apart}
 use Rattle.image.specs.Parts.{part, over}
 use Rattle.image.specs.Record.{count_in, code_in, size_in, size_numbered, number_at, mark_at, bad_mark, marks_fit, formatted, sector_at, track_in, pair_of, with_format}
-use Rattle.image.specs.Windows.{length_over, get_or-over_outside, get_or-over_inside, get_d_part, part_over_other, part_over_part, put_over, put_front, over_more, set_two}
+use Rattle.image.proofs.Windows.{length_over, get_or-over_outside, get_or-over_inside, get_d_part, part_over_other, part_over_part, put_over, put_front, over_more, set_two}
 use Rattle.image.proofs.Pieces.{length_joined, joined_part}
-use Rattle.image.specs.Tracks.{numbered, number_small, held}
-use Rattle.image.specs.Attempts.{apart}
+use Rattle.image.proofs.Tracks.{numbered, number_small, held}
 
 no_id : SectorId
 no_id = record { number = 0; bad = false }

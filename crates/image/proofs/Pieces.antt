@@ -2,9 +2,9 @@
 use Rattle.std.proofs.Common.{◌≡◌, ℕ, zero, suc, ◌+◌, ◌-◌, ◌*◌, ◌<◌, ◌≤◌, List, [], ◌∷◌, ◌++◌, length, get_or, take, sym, ap, ◌∙◌, ap₂, mul-le-mul_left, mul-add, arith}
 use borrow.Rule.Slice.PartMut.{put_mid}
 use Rattle.std.specs.List.{flat_map}
-use Rattle.std.proofs.lemmas.List.{length-append, length-take-le, take_more, flat_map_more, take_all}
+use Rattle.std.proofs.lemmas.List.{length-append, length-take-le, take_more, flat_map_more}
 use Rattle.image.specs.Parts.{part, over}
-use Rattle.image.specs.Windows.{put_over, over_more, part_append_left, part_append_right}
+use Rattle.image.proofs.Windows.{put_over, over_more, part_append_left, part_append_right}
 
 module _ {X : Type 0} (f : X → List ℕ) (w : ℕ) (each : (x : X) → length (f x) ≡ w) where
   pub length_joined : (xs : List X) → length (flat_map f xs) ≡ w * length xs
@@ -36,7 +36,3 @@ module _ {X : Type 0} (f : X → List ℕ) (w : ℕ) (each : (x : X) → length 
       let z : w * suc i ≡ w + w * i = omega (arith, mul-add w 1 i) in
       ap (λ (n : ℕ). part n w (f x ++ flat_map f xs)) z ∙ part_append_right w (w * i) w (f x) (flat_map f xs) (each x)
       ∙ joined_part xs i d (omega arith)
-
--- what a loop over all the elements has written
-pub joined_all : {X : Type 0} (f : X → List ℕ) (xs : List X) (i : ℕ) (old new : List ℕ) → length xs ≤ i → new ≡ over 0 (flat_map f (take i xs)) old → new ≡ over 0 (flat_map f xs) old
-joined_all f xs i old new h e = e ∙ ap (λ t. over 0 (flat_map f t) old) (take_all i xs h)

@@ -7,11 +7,12 @@ use Rattle.std.proofs.lemmas.Bool.{cases_eq, cases_lt}
 use Rattle.sector.specs.Sizes.{bytes_of}
 use Rattle.sector.specs.declared.size.SizeCode.{SizeCode}
 use Rattle.drive.specs.Model.{Sector, no_sector, rewritten}
+use Rattle.image.specs.Holds.{apart, shape_of}
 use Rattle.image.specs.Parts.{part, over}
 use Rattle.image.specs.Record.{count_in, code_in, size_in, size_numbered, bad_mark, marks_fit, formatted, sector_at, sectors_in, track_in, Slot, with_sector}
-use Rattle.image.specs.Windows.{length_over, get_or-over_outside, part_over_other, part_over_same}
-use Rattle.image.specs.Tracks.{shape_of, held, held_at}
-use Rattle.image.specs.Attempts.{apart, bytes_fit, check_fits, sector_size}
+use Rattle.image.proofs.Windows.{length_over, get_or-over_outside, part_over_other, part_over_same}
+use Rattle.image.proofs.Tracks.{held, held_at}
+use Rattle.image.proofs.Attempts.{bytes_fit, check_fits, sector_size}
 
 -- ---- records with one header
 pub record Alike (r s : List ℕ) : Type 0 where

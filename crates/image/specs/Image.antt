@@ -1,10 +1,9 @@
 -- How an image's memory holds its tracks: a record for each, cylinder by cylinder and head by head.
-use Rattle.std.specs.Prelude.{ℕ, ◌+◌, ◌*◌, ◌%◌, Bool, true, cond, not, ◌&&◌, List, [], Some, None, Option, ◌==◌, nat_le, nat_lt}
+use Rattle.std.specs.Prelude.{ℕ, ◌+◌, ◌*◌, ◌%◌, min, Bool, true, cond, ◌&&◌, List, [], Some, None, Option, ◌==◌, nat_le, nat_lt}
 use Rattle.drive.specs.Asking.{unless}
 use Rattle.drive.specs.Model.{Sector, intact, Outlook, Change, sector, track, Layout, DriveModel}
 use Rattle.drive.specs.Bounds.{Measures}
-use Rattle.drive.specs.declared.answers.Formatting.{Formatting}
-use Rattle.drive.specs.declared.answers.Formatting.TheVariants as formatting
+use Rattle.drive.specs.declared.geometry.Geometry.{Geometry}
 use Rattle.image.specs.declared.refusal.Refusal.{Refusal}
 use Rattle.image.specs.declared.refusal.Refusal.TheVariants.{Cylinders, Heads, Capacity, Memory}
 use Rattle.image.specs.Parts.{part, over}
@@ -59,14 +58,9 @@ image_model cylinders heads capacity protected cylinder memory =
       layout = image_layout heads capacity;
     }
 
--- what stands first against a format of so many sectors of so many bytes, or that nothing does
-abbrev pub format_asked : Bool → ℕ → ℕ → ℕ → ℕ → ℕ → Formatting
-format_asked protected heads capacity head count bytes =
-    unless (not protected) formatting.Protected
-    (unless (nat_lt head heads) formatting.BadHead
-    (unless (nat_le 1 count && nat_le count 64) formatting.BadCount
-    (unless (nat_le (count * bytes) capacity) formatting.TooLong
-    formatting.Formatted)))
+-- how many bytes an image of these measures asks for; more room than a track can have counts as the most
+abbrev pub memory_length : Geometry → ℕ
+memory_length g = (g.cylinders * g.heads) * (386 + min g.capacity 65536)
 
 -- What stands against an image of a make with these limits, if anything does: its cylinders, its heads, its capacity, which is a
 -- multiple of 128 from 128 to 65,536, and the length of its memory, asked in this order.
@@ -84,10 +78,3 @@ refusal_number Cylinders = 6
 refusal_number Heads = 7
 refusal_number Capacity = 8
 refusal_number Memory = 9
-
--- the most cylinders and heads of either make
-abbrev pub winchester_most : Measures
-winchester_most = record { cylinders = 1024; heads = 8 }
-
-abbrev pub floppy_most : Measures
-floppy_most = record { cylinders = 256; heads = 2 }

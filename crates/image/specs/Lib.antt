@@ -1,9 +1,6 @@
 pub mod Parts
 pub mod Record
 pub mod Image
-pub mod Store
+pub mod Meaning
+pub mod Refusals
 pub mod Holds
-pub mod Windows
-pub mod Tracks
-pub mod Attempts
-pub mod Frames

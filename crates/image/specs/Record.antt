@@ -1,7 +1,8 @@
 -- A track record: a count, a size code, 64 pairs of number and mark, 64 times four check bytes, and the sectors' bytes, in order.
 -- So pair i stands at 2 + 2 i, check bytes i at 130 + 4 i, and the bytes of sector i at 386 + i times the size.
-use Rattle.std.specs.Prelude.{◌≡◌, ℕ, zero, suc, ◌+◌, ◌-◌, ◌*◌, ◌<◌, ◌≤◌, Bool, true, cond, ◌&&◌, ◌||◌, List, [], ◌∷◌, map, length, replicate, ◌==◌, nat_le, slice_index}
+use Rattle.std.specs.Prelude.{◌≡◌, ℕ, zero, suc, ◌+◌, ◌-◌, ◌*◌, ◌<◌, ◌≤◌, Bool, true, cond, ◌&&◌, ◌||◌, List, [], ◌∷◌, map, length, drop, replicate, ◌==◌, nat_le, slice_index}
 use Rattle.std.specs.List.{range_with_len, flat_map}
+use Rattle.std.specs.Simd.{first_chunks}
 use Rattle.sector.specs.Sizes.{bytes_of, number_of}
 use Rattle.sector.specs.declared.size.SizeCode.{SizeCode}
 use Rattle.sector.specs.declared.size.SizeCode.TheVariants.{Bytes256, Bytes512, Bytes1024, Bytes128}
@@ -40,6 +41,18 @@ size_in r = size_numbered (code_in r)
 abbrev pub bad_mark : ℕ
 bad_mark = 128
 
+-- the pairs of number and mark of the sectors
+abbrev pub pairs_in : List ℕ → List (List ℕ)
+pairs_in r = first_chunks 2 (count_in r) (drop 2 r)
+
+-- a pair with this number
+abbrev pub is_named : ℕ → List ℕ → Bool
+is_named number pair = slice_index pair 0 == number
+
+-- a pair whose mark is one
+abbrev pub is_marked : List ℕ → Bool
+is_marked pair = slice_index pair 1 == 0 || slice_index pair 1 == bad_mark
+
 -- the n marks from sector i on are marks
 abbrev pub marks_fit : List ℕ → ℕ → ℕ → Bool
 marks_fit r i zero = true
@@ -68,10 +81,6 @@ sectors_in r = map (sector_at r) (range_with_len 0 (count_in r))
 -- the track that a record holds: one that is not formatted has no sectors
 abbrev pub track_in : List ℕ → List Sector
 track_in r = cond (formatted r) (sectors_in r) []
-
--- a slot with this number, in a record with this size code
-abbrev pub Labelled : List ℕ → ℕ → ℕ → ℕ → Type 0
-Labelled r number code k = (number_at r k ≡ number) × (code_in r ≡ code)
 
 -- a slot of a formatted record whose sectors have this size
 pub record Slot (r : List ℕ) (size : SizeCode) (k : ℕ) : Type 0 where

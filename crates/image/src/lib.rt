@@ -4,14 +4,13 @@
 // drive, every call of which leaves the memory as the drive's meaning says, byte for byte.
 #![tactic(auto)]
 
-mod fitting;
-mod floppy;
+mod image;
+mod make;
+mod memory;
 mod record;
 mod refusal;
-mod store;
-mod winchester;
 
-pub use fitting::Fitting;
-pub use floppy::FloppyImage;
-pub use refusal::Refusal;
-pub use winchester::WinchesterImage;
+pub use image::{FloppyImage, Image, WinchesterImage};
+pub use make::{Floppy, Make, Winchester};
+pub use memory::blank_memory;
+pub use refusal::{Refusal, Refused, fitted};

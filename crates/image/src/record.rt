@@ -1,65 +1,56 @@
 // Track records: a count, a size code, 64 pairs of number and mark, 64 times four check bytes, and the sectors' bytes, in order.
-ghost use Rattle.std.specs.Prelude.{◌≡◌, ℕ, ◌+◌, ◌*◌, ◌<◌, ◌≤◌, length, take, IfSome, if◌then◌else◌, nat_eq, slice_set};
-ghost use Rattle.std.specs.List.{flat_map};
+ghost use Rattle.std.specs.Prelude.{◌≡◌, ℕ, ◌+◌, ◌*◌, ◌<◌, ◌≤◌, true, false, length, take, IfSome, MatchOption, Err, if◌then◌else◌, nat_eq, slice_set};
+ghost use Rattle.std.specs.List.{flat_map, list_all, position_from};
+ghost use Rattle.std.specs.Option.{option_map};
 ghost use Rattle.drive.specs.Model.{slot_of, intact};
 ghost use Rattle.drive.specs.Bounds.{Bytes};
-ghost use Rattle.drive.specs.Calls.{delivered};
-ghost use Rattle.drive.specs.declared.answers.Reading.TheVariants as reading;
-ghost use Rattle.drive.specs.declared.answers.Writing.TheVariants as writing;
+ghost use Rattle.drive.specs.Calls.{delivered, done};
+ghost use Rattle.drive.specs.declared.answers.ReadError.TheVariants as read_error;
+ghost use Rattle.drive.specs.declared.answers.WriteError.TheVariants as write_error;
 ghost use Rattle.sector.specs.Sizes.{bytes_of, number_of};
-ghost use Rattle.image.specs.Record.{formatted, marks_fit, mark_at, bad_mark, sector_at, track_in, Labelled, Slot, with_sector, pair_of, with_format};
+ghost use Rattle.image.specs.Record.{formatted, size_in, is_marked, is_named, pairs_in, mark_at, bad_mark, sector_at, track_in, Slot, with_sector, pair_of, with_format};
 ghost use Rattle.image.specs.Parts.{over};
 
-use drive::{Reading, SectorBuffer, SectorId, Writing};
+use drive::{MOST_SECTORS, ReadError, SectorBuffer, SectorId, WriteError};
 use sector::SizeCode;
+use std::ops::Range;
 
 // The bytes of a record before the sectors' own.
 pub(crate) const HEADER: usize = 386;
 
 const BAD_MARK: u8 = 0x80;
 
-// Are the marks of the first `count` sectors marks?
-fn marks_fit(track: &[u8], count: usize) -> bool
-    requires { (386 ≤ length track.now) × (count ≤ 64) }
-    ensures { result ≡ marks_fit track.now 0 count }
+// Are the marks of these pairs marks?
+fn marks_fit(pairs: &[[u8; 2]]) -> bool
+    ensures { result ≡ list_all is_marked pairs.now }
 {
-    for place in 0..count {
-        let mark = track[3 + 2 * place];
-        if mark != 0 && mark != BAD_MARK {
-            return false;
-        }
-    }
-    true
+    pairs.iter().all(|[_, mark]| matches!(*mark, 0 | BAD_MARK))
 }
 
-// Does the record hold a track?
-fn is_formatted(track: &[u8]) -> bool
+// The size of the sectors, and a pair of number and mark for each, where the record holds a track.
+fn sectors(track: &[u8]) -> Option<(SizeCode, &[[u8; 2]])>
     requires { 386 ≤ length track.now }
-    ensures { result ≡ formatted track.now }
+    ensures { MatchOption result (formatted track.now ≡ false) (λ held. (formatted track.now ≡ true) × (held.0 ≡ size_in track.now) × (held.1.now ≡ pairs_in track.now)) }
 {
+    let size = SizeCode::try_from(track[1]).ok()?;
     let count = track[0] as usize;
-    let Some(size) = SizeCode::from_number(track[1]) else {
-        return false;
-    };
-    count >= 1
-        && count <= 64
-        && count * size.bytes() <= track.len() - HEADER
-        && marks_fit(track, count)
+    if count < 1 || count > MOST_SECTORS || count * size.bytes() > track.len() - HEADER {
+        return None;
+    }
+    let (pairs, _) = track[2..2 + 2 * count].as_chunks::<2>();
+    if marks_fit(pairs) {
+        Some((size, pairs))
+    } else {
+        None
+    }
 }
 
-// The first of `count` slots with this number, if the record has this size code; else `count`.
-fn first_slot(track: &[u8], count: usize, number: u8, code: u8) -> usize
-    requires { (386 ≤ length track.now) × (count ≤ 64) }
-    ensures within { result ≤ count }
-    ensures before { (k : ℕ) → k < result → Labelled track.now number code k → ⊥ }
-    ensures found { result < count → Labelled track.now number code result }
+// Where the first of these pairs with the number stands.
+fn first_named(pairs: &[[u8; 2]], number: u8) -> Option<usize>
+    ensures place { result ≡ position_from (is_named number) 0 pairs.now }
+    ensures within { IfSome result (λ k. k < length pairs.now) }
 {
-    for slot in 0..count {
-        if track[2 + 2 * slot] == number && track[1] == code {
-            return slot;
-        }
-    }
-    count
+    pairs.iter().position(|[named, _]| *named == number)
 }
 
 // The slot of the first sector with this number and size.
@@ -68,34 +59,52 @@ pub(crate) fn find_sector(track: &[u8], number: u8, size: SizeCode) -> Option<us
     ensures slot { result ≡ slot_of (track_in track.now) number size }
     ensures found { IfSome result (λ k. Slot track.now size k) }
 {
-    if !is_formatted(track) {
-        return None;
+    let (held, pairs) = sectors(track)?;
+    if held == size {
+        first_named(pairs, number)
+    } else {
+        None
     }
-    let count = track[0] as usize;
-    let slot = first_slot(track, count, number, size.number());
-    if slot < count { Some(slot) } else { None }
 }
 
-// Reads the sector in a slot, unless it is marked bad.
+// Where the bytes of the sector in a slot stand.
+fn bytes_range(slot: usize, size: SizeCode) -> Range<usize>
+    requires { slot < 64 }
+    ensures start { result.start ≡ 386 + slot * bytes_of size }
+    ensures end { result.end ≡ result.start + bytes_of size }
+{
+    let start = HEADER + slot * size.bytes();
+    start..start + size.bytes()
+}
+
+// Where its check bytes stand.
+fn check_range(slot: usize) -> Range<usize>
+    requires { slot < 64 }
+    ensures start { result.start ≡ 130 + 4 * slot }
+    ensures end { result.end ≡ result.start + 4 }
+{
+    let start = 130 + 4 * slot;
+    start..start + 4
+}
+
+// Reads the sector in a slot, unless it is marked bad. No call can lend a part of the buffer's array for writing, so the part is
+// taken here.
 pub(crate) fn read_slot(
     track: &[u8],
     slot: usize,
     size: SizeCode,
     buffer: &mut SectorBuffer,
-) -> Reading
+) -> Result<(), ReadError>
     requires { Slot track.now size slot }
-    ensures answer { result ≡ (if nat_eq (mark_at track.now slot) bad_mark then reading.BadBlock else reading.Delivered) }
+    ensures answer { result ≡ (if nat_eq (mark_at track.now slot) bad_mark then Err read_error.BadBlock else done) }
     ensures handed { buffer.new ≡ (if nat_eq (mark_at track.now slot) bad_mark then buffer.old else delivered intact (sector_at track.now slot) buffer.old) }
 {
     if track[3 + 2 * slot] == BAD_MARK {
-        return Reading::BadBlock;
+        return Err(ReadError::BadBlock);
     }
-    let length = size.bytes();
-    let from = HEADER + slot * length;
-    let check = 130 + 4 * slot;
-    buffer.bytes[0..length].copy_from_slice(&track[from..from + length]);
-    buffer.check.copy_from_slice(&track[check..check + 4]);
-    Reading::Delivered
+    buffer.bytes[..size.bytes()].copy_from_slice(&track[bytes_range(slot, size)]);
+    buffer.check.copy_from_slice(&track[check_range(slot)]);
+    Ok(())
 }
 
 // Writes the sector in a slot, unless it is marked bad.
@@ -104,33 +113,37 @@ pub(crate) fn write_slot(
     slot: usize,
     size: SizeCode,
     buffer: &SectorBuffer,
-) -> Writing
+) -> Result<(), WriteError>
     requires { Slot track.old size slot }
-    ensures answer { result ≡ (if nat_eq (mark_at track.old slot) bad_mark then writing.BadBlock else writing.Written) }
+    ensures answer { result ≡ (if nat_eq (mark_at track.old slot) bad_mark then Err write_error.BadBlock else done) }
     ensures after { track.new ≡ (if nat_eq (mark_at track.old slot) bad_mark then track.old else with_sector slot (take (bytes_of size) buffer.now.bytes) buffer.now.check track.old) }
     ensures bytes { Bytes track.new }
     ensures full { (length buffer.now.bytes ≡ 1024) × (length buffer.now.check ≡ 4) }
 {
     if track[3 + 2 * slot] == BAD_MARK {
-        return Writing::BadBlock;
+        return Err(WriteError::BadBlock);
     }
-    let length = size.bytes();
-    let from = HEADER + slot * length;
-    let check = 130 + 4 * slot;
-    track[from..from + length].copy_from_slice(&buffer.bytes[0..length]);
-    track[check..check + 4].copy_from_slice(&buffer.check);
-    Writing::Written
+    track[bytes_range(slot, size)].copy_from_slice(buffer.sector(size));
+    track[check_range(slot)].copy_from_slice(&buffer.check);
+    Ok(())
 }
 
-// Writes the pairs of the IDs over the front of `pairs`.
+// The pair of number and mark of an ID.
+fn pair_of(id: SectorId) -> [u8; 2]
+    ensures { result ≡ pair_of id }
+{
+    [id.number, if id.bad { BAD_MARK } else { 0 }]
+}
+
+// Writes the pairs of the IDs over the front of `pairs`. Each is written at its index, here and below: a proof knows nothing of
+// the elements that chunks_exact_mut has lent. That there are at most 64 is asked once, by `judge_format`, and known to all four
+// that take the IDs or their count from here on; a list with the fact in it would have to be made for them.
 fn write_pairs(pairs: &mut [u8], ids: &[SectorId])
     requires { (2 * length ids.now ≤ length pairs.old) × (length ids.now ≤ 64) }
     ensures { pairs.new ≡ over 0 (flat_map pair_of ids.now) pairs.old }
 {
-    for slot in 0..ids.len() {
-        let id = ids[slot];
-        let mark = if id.bad { BAD_MARK } else { 0 };
-        pairs[2 * slot..2 * slot + 2].copy_from_slice(&[id.number, mark]);
+    for (slot, id) in ids.iter().enumerate() {
+        pairs[2 * slot..2 * slot + 2].copy_from_slice(&pair_of(*id));
     }
 }
 
@@ -150,7 +163,7 @@ fn write_head(track: &mut [u8], count: usize, size: SizeCode)
     ensures { track.new ≡ slice_set (slice_set track.old 0 count) 1 (number_of size) }
 {
     track[0] = count as u8;
-    track[1] = size.number();
+    track[1] = u8::from(size);
 }
 
 // Makes the record one of sectors with these IDs, of this size, with zero bytes and these check bytes.

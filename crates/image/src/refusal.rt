@@ -1,26 +1,46 @@
-// Why an image is refused.
+// Why an image is refused, and what comes back of it.
 ghost use Rattle.std.specs.Prelude.{◌≡◌};
 ghost use Rattle.image.specs.Image.{refusal_number};
+ghost use Rattle.image.specs.Refusals.{bay_of};
+
+use drive::{Bay, Drive};
+use thiserror::Error;
 
 // What is out of range, in the order of asking.
-#[derive(Clone, Copy, PartialEq, Eq, Debug)]
+#[derive(Clone, Copy, PartialEq, Eq, Debug, Error)]
 pub enum Refusal {
-    Cylinders,
-    Heads,
-    Capacity,
-    Memory,
+    #[error("the make has no such number of cylinders")]
+    Cylinders = 6,
+    #[error("the make has no such number of heads")]
+    Heads = 7,
+    #[error("a track's capacity is a multiple of 128, from 128 to 65536")]
+    Capacity = 8,
+    #[error("the memory does not have the length of the tracks' records")]
+    Memory = 9,
 }
 
-impl Refusal {
-    // The number of this refusal.
-    pub fn number(self) -> u8
-        ensures { result ≡ refusal_number self }
-    {
-        match self {
-            Refusal::Cylinders => 6,
-            Refusal::Heads => 7,
-            Refusal::Capacity => 8,
-            Refusal::Memory => 9,
-        }
+impl From<Refusal> for u8 {
+    ghost from_gives = { λ refusal number. number ≡ refusal_number refusal };
+
+    fn from(refusal: Refusal) -> u8 {
+        refusal as u8
+    }
+}
+
+// What comes back of an image that is refused.
+#[derive(Debug, Drop, Error)]
+#[error("{refusal}")]
+pub struct Refused {
+    pub refusal: Refusal,
+    pub memory: Vec<u8>,
+}
+
+// The bay that an image was made for: with it, or without a drive and with the memory that came for it.
+pub fn fitted<D: Drive>(made: Result<D, Refused>) -> Bay<D>
+    ensures { result ≡ bay_of made }
+{
+    match made {
+        Ok(drive) => Bay::Fitted(drive),
+        Err(refused) => Bay::Empty(refused.memory),
     }
 }

@@ -1,12 +1,10 @@
 -- The front of a buffer, corrected in place.
-use Rattle.std.proofs.Common.{◌≡◌, ℕ, List, ◌++◌, length, take, drop, refl, ap}
+use Rattle.std.proofs.Common.{◌≡◌, ℕ, List, ◌++◌, length, take, drop, Some, None, Ok, Err, refl, ap}
 use Rattle.std.proofs.lemmas.List.{take-append-drop}
 use Rattle.sector.specs.declared.size.SizeCode.TheVariants.{Bytes512}
 use Rattle.sector.specs.Sizes.{size_with}
 use Rattle.check_code.specs.Code.{ecc_code, difference_of}
-use Rattle.burst.specs.declared.mending.Correction.{Correction}
-use Rattle.burst.specs.declared.mending.Correction.TheVariants as correction
-use Rattle.burst.specs.Mending.{judged, mended}
+use Rattle.burst.specs.Mending.{Correction, judged, mended}
 use Rattle.burst.specs.Mending as mending
 use Rattle.drive.specs.declared.buffer.SectorBuffer.{SectorBuffer}
 use Rattle.records.specs.Sectors.{by_correction, mended_in}
@@ -20,7 +18,6 @@ whole bytes check = ap (λ (t : List ℕ). record { bytes = t; check = check }) 
 
 pub mended_front : (r : Correction) (bytes check : List ℕ)
     → ◌≡◌ {A = SectorBuffer} (record { bytes = mended r (take 512 bytes) ++ drop 512 bytes; check = check }) (mended_in (by_correction r) (record { bytes = bytes; check = check }))
-mended_front correction.Intact bytes check = whole bytes check
-mended_front (correction.Mended b) bytes check = refl
-mended_front correction.Uncorrectable bytes check = whole bytes check
-mended_front correction.UnknownSize bytes check = whole bytes check
+mended_front (Ok None) bytes check = whole bytes check
+mended_front (Ok (Some b)) bytes check = refl
+mended_front (Err e) bytes check = whole bytes check

@@ -1,4 +1,3 @@
 mod Steps
-mod Found
 mod Judging
 mod Trying

@@ -2,8 +2,7 @@
 use Rattle.std.proofs.Common.{◌≡◌, ℕ, ◌+◌, ◌-◌, ◌<◌, ◌≤◌, min, max, true, cond, ◌&&◌, ltb, sym, ap, ◌∙◌, ap₂, ⊎_elim, arith}
 use Rattle.std.proofs.lemmas.Bool.{cases_lt, cond-true, cond-false, lt-ltb, le-ltb}
 use Rattle.drive.specs.Model.{DriveModel, at_cylinder}
-use Rattle.drive.specs.Calls.{stepped_in, stepped_out}
-use Rattle.records.specs.Seeks.{nearer}
+use Rattle.drive.specs.Calls.{stepped_in, stepped_out, nearer}
 
 -- where i steps toward c lead from a
 abbrev pub closer : ℕ → ℕ → ℕ → ℕ

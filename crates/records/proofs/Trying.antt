@@ -5,8 +5,7 @@ use Rattle.sector.specs.declared.size.SizeCode.TheVariants.{Bytes512}
 use Rattle.drive.specs.declared.buffer.SectorBuffer.{SectorBuffer}
 use Rattle.drive.specs.Model.{DriveModel}
 use Rattle.drive.specs.Calls.{read_answer, handed_over, after_read}
-use Rattle.records.specs.declared.sectors.Outcome.{Outcome}
-use Rattle.records.specs.Sectors.{outcome_of, mended_in, is_final, Tried, tried}
+use Rattle.records.specs.Sectors.{Outcome, outcome_of, mended_in, is_final, Tried, tried}
 
 module _ (left made : ℕ) (d : DriveModel) (head number : ℕ) (b : SectorBuffer) (last : Outcome) where
   abbrev handed : SectorBuffer

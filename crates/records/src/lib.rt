@@ -9,6 +9,6 @@ mod moves;
 mod places;
 mod sectors;
 
-pub use moves::{Seeking, seek};
-pub use places::{Grid, Place};
-pub use sectors::{Outcome, Recovery, read_record, write_record};
+pub use moves::{SeekError, seek};
+pub use places::{Grid, PlacesError, RECORD};
+pub use sectors::{Outcome, Recovery, Unreadable, Unwritten, read_record, write_record};

@@ -1,43 +1,32 @@
 // Moving the head to a cylinder.
 ghost use Rattle.std.specs.Prelude.{◌≡◌};
-ghost use Rattle.records.specs.Seeks.{nearer, seek_answer, sought};
+ghost use Rattle.records.specs.Seeks.{seek_answer, sought};
 
-use drive::Drive;
+use drive::{Drive, step_toward};
+use thiserror::Error;
 
-// What a seek answers.
-#[derive(Clone, Copy, PartialEq, Eq, Debug)]
-pub enum Seeking {
+// Why the head is not moved.
+#[derive(Clone, Copy, PartialEq, Eq, Debug, Error)]
+pub enum SeekError {
+    #[error("the drive is not ready")]
     NotReady,
-    // The drive has no such cylinder; its head stays.
+    #[error("the drive has no such cylinder")]
     NoCylinder,
-    Found,
-}
-
-// One step toward a cylinder; none where the head stands there.
-fn step_toward<D: Drive>(drive: &mut D, cylinder: u16)
-    ensures { D.Drive.meaning drive.new ≡ nearer (D.Drive.meaning drive.old) cylinder }
-{
-    let at = drive.cylinder();
-    if at < cylinder {
-        drive.step_in();
-    } else if cylinder < at {
-        drive.step_out();
-    }
 }
 
 // Moves the head to a cylinder, within as many steps as drives of this make have cylinders.
-pub fn seek<D: Drive>(drive: &mut D, cylinder: u16) -> Seeking
-    ensures answer { result ≡ seek_answer (D.Drive.meaning drive.old) cylinder }
-    ensures after { D.Drive.meaning drive.new ≡ sought (D.Drive.meaning drive.old) cylinder }
+pub fn seek<D: Drive>(drive: &mut D, cylinder: u16) -> Result<(), SeekError>
+    ensures answer { result ≡ seek_answer (D.meaning drive.old) cylinder }
+    ensures after { D.meaning drive.new ≡ sought (D.meaning drive.old) cylinder }
 {
     if !drive.is_ready() {
-        return Seeking::NotReady;
+        return Err(SeekError::NotReady);
     }
     if cylinder >= drive.cylinders() {
-        return Seeking::NoCylinder;
+        return Err(SeekError::NoCylinder);
     }
-    for _i in 0..D::cylinder_limit() {
+    for _i in 0..D::MOST_CYLINDERS {
         step_toward(drive, cylinder);
     }
-    Seeking::Found
+    Ok(())
 }

@@ -1,21 +1,63 @@
 // Where records lie on a drive.
-ghost use Rattle.std.specs.Prelude.{◌≡◌};
-ghost use Rattle.records.specs.Places.{place_of};
+ghost use Rattle.std.specs.Prelude.{◌≡◌, ◌<◌, IfOk, IsErrOf};
+ghost use Rattle.records.specs.Places.{grid_of, records_in, place_of, ArePlaces};
+
+use drive::{Geometry, MOST_SECTORS, Place};
+use std::alloc::{AllocError, AllocFailed, Global};
+use thiserror::Error;
+
+// The bytes of a record, which are those of its sector.
+pub const RECORD: usize = 512;
 
 // A drive's cylinders and heads, and how many sectors each track has, numbered from 0.
-#[derive(Clone, Copy, Debug)]
+#[derive(Clone, Copy, PartialEq, Eq, Debug)]
 pub struct Grid {
     pub cylinders: u16,
     pub heads: u8,
     pub sectors: u8,
 }
 
-// A cylinder, a head and a sector number.
-#[derive(Clone, Copy, Debug)]
-pub struct Place {
-    pub cylinder: u16,
-    pub head: u8,
-    pub number: u8,
+// Why records have no places.
+#[derive(Debug, Drop, Error)]
+pub enum PlacesError {
+    #[error("the sheet is longer than the drive")]
+    TooLong,
+    #[error("out of memory for the places of records")]
+    OutOfMemory,
+}
+
+// A conversion that is derived says nothing to a clause, so these and those of `sectors` are written out.
+impl From<AllocError> for PlacesError {
+    ghost use Rattle.records.specs.declared.places.PlacesError.TheVariants.{OutOfMemory};
+
+    ghost from_gives = { λ _ r. r ≡ OutOfMemory };
+
+    fn from(_error: AllocError) -> PlacesError {
+        PlacesError::OutOfMemory
+    }
+}
+
+impl<T: Drop> From<AllocFailed<T>> for PlacesError {
+    ghost use Rattle.records.specs.declared.places.PlacesError.TheVariants.{OutOfMemory};
+
+    ghost from_gives = { λ _ r. r ≡ OutOfMemory };
+
+    fn from(_refused: AllocFailed<T>) -> PlacesError {
+        PlacesError::OutOfMemory
+    }
+}
+
+impl From<Geometry> for Grid {
+    // As many records on each track as it has room for.
+    ghost from_gives = { λ geometry grid. grid ≡ grid_of geometry };
+
+    fn from(geometry: Geometry) -> Grid {
+        Grid {
+            cylinders: geometry.cylinders,
+            heads: geometry.heads,
+            sectors: (geometry.capacity as usize / RECORD).min(MOST_SECTORS) as u8,
+        }
+    }
 }
 
 impl Grid {
@@ -36,5 +78,17 @@ impl Grid {
             head,
             number,
         })
+    }
+
+    // The places of the first so many records, in order. Each is worked out of the record's number: there is no list to go over.
+    pub fn places(self, heap: Global, records: usize) -> Result<Vec<Place>, PlacesError>
+        ensures places { IfOk result (λ v. ArePlaces self records v.items) }
+        ensures too_long { IsErrOf result PlacesError.TooLong → records_in self < records }
+    {
+        let mut places = Vec::new(heap);
+        for index in 0..records {
+            places.push(self.place(index).ok_or(PlacesError::TooLong)?)?;
+        }
+        Ok(places)
     }
 }

@@ -1,44 +1,108 @@
 // Writing a record, and reading one with retries.
-ghost use Rattle.std.specs.Prelude.{◌≡◌};
+ghost use Rattle.std.specs.Prelude.{◌≡◌, Result, Option};
 ghost use Rattle.sector.specs.declared.size.SizeCode.TheVariants.{Bytes512};
 ghost use Rattle.drive.specs.Calls.{read_answer, handed_over, after_read};
 ghost use Rattle.records.specs.Seeks.{seek_answer, sought};
-ghost use Rattle.records.specs.Sectors.{record_buffer, where_found, if_found, record_answer, after_record, by_correction, outcome_of, mended_in, is_final, nine_tries, recovery_answer, after_recovery, recovered_buffer};
+ghost use Rattle.records.specs.Sectors.{record_buffer, record_answer, after_record, outcome_of, mended_in, is_final, nine_tries, recovery_answer, after_recovery, recovered_buffer};
 
-use super::moves::{Seeking, seek};
-use super::places::Place;
-use burst::{Correction, correct};
+use super::moves::{SeekError, seek};
+use super::places::RECORD;
+use burst::{CorrectionError, correct};
 use check_code::{Ecc, check_bytes};
-use drive::{Drive, Reading, SectorBuffer, Writing};
+use drive::{Drive, Place, ReadError, SectorAddress, SectorBuffer, WriteError};
 use sector::{Burst, SizeCode};
+use thiserror::Error;
 
-// How often a record is tried.
+// How often a record is tried. The controller's rule is its own, and is nine too.
 const TRIES: u8 = 9;
 
-// What the last attempt at a record came to.
-#[derive(Clone, Copy)]
-pub enum Outcome {
-    // The check fits the bytes.
-    Clean,
-    // This burst was wrong, and is mended.
-    Mended(Burst),
-    // The attempt answered this; a delivery that no burst explains answers `Delivered`.
-    Unreadable(Reading),
+// Why a record is not written.
+#[derive(Clone, Copy, PartialEq, Eq, Debug, Error)]
+pub enum Unwritten {
+    #[error("{0}")]
+    Seek(SeekError),
+    #[error("{0}")]
+    Attempt(WriteError),
 }
 
-// What came of a record, and after how many attempts.
+impl From<SeekError> for Unwritten {
+    ghost use Rattle.records.specs.declared.sectors.Unwritten.TheVariants as unwritten;
+
+    ghost from_gives = { λ e r. r ≡ unwritten.Seek e };
+
+    fn from(error: SeekError) -> Unwritten {
+        Unwritten::Seek(error)
+    }
+}
+
+impl From<WriteError> for Unwritten {
+    ghost use Rattle.records.specs.declared.sectors.Unwritten.TheVariants as unwritten;
+
+    ghost from_gives = { λ e r. r ≡ unwritten.Attempt e };
+
+    fn from(error: WriteError) -> Unwritten {
+        Unwritten::Attempt(error)
+    }
+}
+
+// Why an attempt does not read a record.
+#[derive(Clone, Copy, PartialEq, Eq, Debug, Error)]
+pub enum Unreadable {
+    #[error("{0}")]
+    Attempt(ReadError),
+    #[error("no burst explains the wrong bits")]
+    Uncorrectable,
+}
+
+impl From<ReadError> for Unreadable {
+    ghost use Rattle.records.specs.declared.sectors.Unreadable.TheVariants as unreadable;
+
+    ghost from_gives = { λ e r. r ≡ unreadable.Attempt e };
+
+    fn from(error: ReadError) -> Unreadable {
+        Unreadable::Attempt(error)
+    }
+}
+
+impl From<CorrectionError> for Unreadable {
+    ghost use Rattle.records.specs.declared.sectors.Unreadable.TheVariants as unreadable;
+
+    ghost from_gives = { λ _ r. r ≡ unreadable.Uncorrectable };
+
+    fn from(_error: CorrectionError) -> Unreadable {
+        Unreadable::Uncorrectable
+    }
+}
+
+// What an attempt at a record came to: it was read, and this burst mended if one was wrong.
+pub type Outcome = Result<Option<Burst>, Unreadable>;
+
+// What the last attempt at a record came to, and how many were made.
 #[derive(Clone, Copy)]
 pub struct Recovery {
     pub outcome: Outcome,
     pub attempts: u8,
 }
 
+// Where the attempts at a place are made, once the head stands at its cylinder.
+fn address_of(place: Place) -> SectorAddress
+    ensures head { result.head ≡ place.head }
+    ensures number { result.number ≡ place.number }
+    ensures size { result.size ≡ Bytes512 }
+{
+    SectorAddress {
+        head: place.head,
+        number: place.number,
+        size: SizeCode::Bytes512,
+    }
+}
+
 // A record's bytes with its check bytes.
-fn filled(bytes: &[u8; 512]) -> SectorBuffer
+fn filled(bytes: &[u8; RECORD]) -> SectorBuffer
     ensures { result ≡ record_buffer bytes.now }
 {
     let mut room = [0u8; 1024];
-    room[0..512].copy_from_slice(bytes);
+    room[..RECORD].copy_from_slice(bytes);
     SectorBuffer {
         bytes: room,
         check: check_bytes::<Ecc>(bytes),
@@ -46,55 +110,39 @@ fn filled(bytes: &[u8; 512]) -> SectorBuffer
 }
 
 // Writes a record at its place, with its check bytes.
+#[tactic(auto, unfolding(crate::specs::Sectors::record_answer, crate::specs::Sectors::after_record))]
 pub fn write_record<D: Drive>(
     drive: &mut D,
     place: Place,
-    bytes: &[u8; 512],
-) -> Result<Writing, Seeking>
-    ensures answer { result ≡ record_answer (D.Drive.meaning drive.old) place }
-    ensures after { D.Drive.meaning drive.new ≡ after_record (D.Drive.meaning drive.old) place bytes.now }
+    bytes: &[u8; RECORD],
+) -> Result<(), Unwritten>
+    ensures answer { result ≡ record_answer (D.meaning drive.old) place }
+    ensures after { D.meaning drive.new ≡ after_record (D.meaning drive.old) place bytes.now }
 {
-    match seek(drive, place.cylinder) {
-        Seeking::Found => Ok(drive.write(
-            place.head,
-            place.number,
-            SizeCode::Bytes512,
-            &filled(bytes),
-        )),
-        missed => Err(missed),
-    }
+    seek(drive, place.cylinder)?;
+    drive.write(address_of(place), &filled(bytes))?;
+    Ok(())
 }
 
-// What the judgement of a delivered sector comes to.
-fn outcome_by(correction: Correction) -> Outcome
-    ensures { result ≡ by_correction correction }
-{
-    match correction {
-        Correction::Intact => Outcome::Clean,
-        Correction::Mended(burst) => Outcome::Mended(burst),
-        Correction::Uncorrectable => Outcome::Unreadable(Reading::Delivered),
-        Correction::UnknownSize => Outcome::Unreadable(Reading::Delivered),
-    }
-}
-
-// Judges what an attempt handed over, and mends it.
-fn judge(answer: Reading, buffer: &mut SectorBuffer) -> Outcome
+// Judges what an attempt handed over, and mends it. No call can lend a part of the buffer's array for writing, so the part is
+// taken here.
+fn judge(answer: Result<(), ReadError>, buffer: &mut SectorBuffer) -> Outcome
     ensures outcome { result ≡ outcome_of answer buffer.old }
     ensures buffer { buffer.new ≡ mended_in result buffer.old }
 {
-    match answer {
-        Reading::Delivered => outcome_by(correct(&mut buffer.bytes[0..512], buffer.check)),
-        other => Outcome::Unreadable(other),
-    }
+    answer?;
+    let mended = correct(&mut buffer.bytes[0..RECORD], buffer.check)?;
+    Ok(mended)
 }
 
-// One attempt at a record.
+// One attempt at a record. Drive, place and buffer are two that change and where they meet; nothing is said of them together;
+// what is said of the drive is what a read attempt says of it, as in each function that makes one.
 fn try_once<D: Drive>(drive: &mut D, place: Place, buffer: &mut SectorBuffer) -> Outcome
-    ensures outcome { result ≡ outcome_of (read_answer (D.Drive.meaning drive.old) place.head place.number Bytes512) (handed_over (D.Drive.meaning drive.old) place.head place.number Bytes512 buffer.old) }
-    ensures after { D.Drive.meaning drive.new ≡ after_read (D.Drive.meaning drive.old) place.head place.number }
-    ensures buffer { buffer.new ≡ mended_in result (handed_over (D.Drive.meaning drive.old) place.head place.number Bytes512 buffer.old) }
+    ensures outcome { result ≡ outcome_of (read_answer (D.meaning drive.old) place.head place.number Bytes512) (handed_over (D.meaning drive.old) place.head place.number Bytes512 buffer.old) }
+    ensures after { D.meaning drive.new ≡ after_read (D.meaning drive.old) place.head place.number }
+    ensures buffer { buffer.new ≡ mended_in result (handed_over (D.meaning drive.old) place.head place.number Bytes512 buffer.old) }
 {
-    let answer = drive.read(place.head, place.number, SizeCode::Bytes512, buffer);
+    let answer = drive.read(address_of(place), buffer);
     judge(answer, buffer)
 }
 
@@ -102,22 +150,19 @@ fn try_once<D: Drive>(drive: &mut D, place: Place, buffer: &mut SectorBuffer) ->
 fn ends(outcome: Outcome) -> bool
     ensures { result ≡ is_final outcome }
 {
-    match outcome {
-        Outcome::Clean => true,
-        Outcome::Mended(_) => true,
-        Outcome::Unreadable(Reading::NotReady) => true,
-        Outcome::Unreadable(Reading::BadBlock) => true,
-        Outcome::Unreadable(_) => false,
-    }
+    matches!(
+        outcome,
+        Ok(_) | Err(Unreadable::Attempt(ReadError::NotReady | ReadError::BadBlock))
+    )
 }
 
 // Tries a record under the head until it is read or cannot be, nine times at most.
 fn read_here<D: Drive>(drive: &mut D, place: Place, buffer: &mut SectorBuffer) -> Recovery
-    ensures recovery { result ≡ (nine_tries (D.Drive.meaning drive.old) place buffer.old).recovery }
-    ensures after { D.Drive.meaning drive.new ≡ (nine_tries (D.Drive.meaning drive.old) place buffer.old).drive }
-    ensures buffer { buffer.new ≡ (nine_tries (D.Drive.meaning drive.old) place buffer.old).buffer }
+    ensures recovery { result ≡ (nine_tries (D.meaning drive.old) place buffer.old).recovery }
+    ensures after { D.meaning drive.new ≡ (nine_tries (D.meaning drive.old) place buffer.old).drive }
+    ensures buffer { buffer.new ≡ (nine_tries (D.meaning drive.old) place buffer.old).buffer }
 {
-    let mut outcome = Outcome::Unreadable(Reading::NoId);
+    let mut outcome = Err(Unreadable::Attempt(ReadError::NoId));
     for made in 0..TRIES {
         outcome = try_once(drive, place, buffer);
         if ends(outcome) {
@@ -134,17 +179,16 @@ fn read_here<D: Drive>(drive: &mut D, place: Place, buffer: &mut SectorBuffer) -
 }
 
 // Reads a record at its place into the buffer's first 512 bytes, with retries, and mends it where one burst is wrong.
+#[tactic(auto, unfolding(crate::specs::Sectors::recovery_answer, crate::specs::Sectors::after_recovery, crate::specs::Sectors::recovered_buffer))]
 pub fn read_record<D: Drive>(
     drive: &mut D,
     place: Place,
     buffer: &mut SectorBuffer,
-) -> Result<Recovery, Seeking>
-    ensures recovery { result ≡ recovery_answer (D.Drive.meaning drive.old) place buffer.old }
-    ensures after { D.Drive.meaning drive.new ≡ after_recovery (D.Drive.meaning drive.old) place buffer.old }
-    ensures buffer { buffer.new ≡ recovered_buffer (D.Drive.meaning drive.old) place buffer.old }
+) -> Result<Recovery, SeekError>
+    ensures recovery { result ≡ recovery_answer (D.meaning drive.old) place buffer.old }
+    ensures after { D.meaning drive.new ≡ after_recovery (D.meaning drive.old) place buffer.old }
+    ensures buffer { buffer.new ≡ recovered_buffer (D.meaning drive.old) place buffer.old }
 {
-    match seek(drive, place.cylinder) {
-        Seeking::Found => Ok(read_here(drive, place, buffer)),
-        missed => Err(missed),
-    }
+    seek(drive, place.cylinder)?;
+    Ok(read_here(drive, place, buffer))
 }

@@ -1,24 +1,21 @@
 // The console: the host of a controller, which it reaches by the eight registers alone.
-use super::outcome::{Ending, Failure, Outcome};
-use super::registers::{
-    COMMAND, CORRECTED, CYLINDER_HIGH, CYLINDER_LOW, DATA, ECC_512, ERROR, FAILED, FORMAT, READ,
-    RESTORE, SDH, SECTOR_COUNT, SECTOR_NUMBER, STATUS, WRITE,
-};
+use super::outcome::{Failure, Outcome, Success};
+use super::registers::{ECC_512, Order, Status, read, write};
 use anyhow::anyhow;
 use controller::{Controller, Lines};
-use drive::Drive;
+use drive::{Drive, Place};
 use histories::{Answer, Call, finish, make_call, run};
-use records::Place;
+use records::{Grid, RECORD};
 use std::alloc::Global;
+use task_file::Register;
 
-// The bytes of a record, which are those of a sector.
-pub const RECORD: usize = 512;
-
-// A console with its controller. It remembers the cylinder that it sent the head to.
+// A console with its controller. It knows where records lie on the Winchester, and remembers the cylinder that it sent the
+// head to.
 #[derive(Drop)]
 pub struct Console<W: Drive, F: Drive> {
     controller: Controller<W, F>,
     heap: Global,
+    grid: Grid,
     cylinder: u16,
 }
 
@@ -30,30 +27,36 @@ pub struct Record {
 }
 
 // The bytes of a format: for each sector a mark, 0 for a good one, and its number; then zeros.
-fn format_bytes(sectors: u8) -> [u8; 512] {
+fn format_bytes(sectors: u8) -> [u8; RECORD] {
     let mut bytes = [0u8; RECORD];
-    for number in 0..sectors.min(64) {
-        bytes[2 * number as usize + 1] = number;
+    for (number, pair) in (0..sectors).zip(bytes.chunks_exact_mut(2)) {
+        pair[1] = number;
     }
     bytes
 }
 
 impl<W: Drive, F: Drive> Console<W, F> {
     // A console before a controller that was just made.
-    pub fn new(controller: Controller<W, F>, heap: Global) -> Console<W, F> {
+    pub fn new(controller: Controller<W, F>, heap: Global, grid: Grid) -> Console<W, F> {
         Console {
             controller,
             heap,
+            grid,
             cylinder: 0,
         }
     }
 
-    // Makes calls, and hands back their answers; one that is refused is an error.
+    // Where records lie on the Winchester.
+    pub fn grid(&self) -> Grid {
+        self.grid
+    }
+
+    // Makes calls, and hands back their answers; one that is refused is an error, told by its number and its name.
     fn run(&mut self, calls: &[Call]) -> anyhow::Result<Vec<Answer>> {
         let answers = run(&mut self.controller, self.heap, calls)?;
         for answer in answers.iter() {
-            if let Answer::Refused(why) = answer {
-                let number = why.number();
+            if let Err(why) = answer {
+                let number = u8::from(*why);
                 return Err(anyhow!(format!(in self.heap; "access refused: {number}, {why:?}")?));
             }
         }
@@ -61,21 +64,21 @@ impl<W: Drive, F: Drive> Console<W, F> {
     }
 
     // Reads a register.
-    fn read(&mut self, register: u8) -> anyhow::Result<u8> {
-        match make_call(&mut self.controller, Call::Read(register)) {
-            Answer::Byte(byte) => Ok(byte),
+    fn read(&mut self, register: Register) -> anyhow::Result<u8> {
+        match make_call(&mut self.controller, read(register)) {
+            Ok(Some(byte)) => Ok(byte),
             _ => Err(anyhow!("a register could not be read")),
         }
     }
 
     // Names a sector, and gives a command for it.
-    fn command(&mut self, place: Place, command: u8) -> anyhow::Result<()> {
+    fn command(&mut self, place: Place, order: Order) -> anyhow::Result<()> {
         let calls = [
-            Call::Write(SECTOR_NUMBER, place.number),
-            Call::Write(CYLINDER_LOW, (place.cylinder % 256) as u8),
-            Call::Write(CYLINDER_HIGH, (place.cylinder / 256) as u8),
-            Call::Write(SDH, ECC_512 + place.head % 8),
-            Call::Write(COMMAND, command),
+            write(Register::Number, place.number),
+            write(Register::Low, (place.cylinder % 256) as u8),
+            write(Register::High, (place.cylinder / 256) as u8),
+            write(Register::Sdh, ECC_512 + place.head % 8),
+            write(Register::Status, u8::from(order)),
         ];
         self.run(&calls)?;
         Ok(())
@@ -85,19 +88,19 @@ impl<W: Drive, F: Drive> Console<W, F> {
     fn give(&mut self, bytes: &[u8]) -> anyhow::Result<()> {
         let mut calls = Vec::with_capacity(self.heap, bytes.len())?;
         for byte in bytes {
-            calls.push(Call::Write(DATA, *byte))?;
+            calls.push(write(Register::Data, *byte))?;
         }
         self.run(&calls)?;
         Ok(())
     }
 
-    // Draws bytes through the data register, at most a record's.
+    // Draws bytes through the data register.
     fn draw(&mut self, count: usize) -> anyhow::Result<Vec<u8>> {
-        let calls = [Call::Read(DATA); RECORD];
-        let answers = self.run(&calls[0..count.min(RECORD)])?;
+        let calls = vec![in self.heap; read(Register::Data); count]?;
+        let answers = self.run(&calls)?;
         let mut bytes = Vec::with_capacity(self.heap, answers.len())?;
         for answer in answers.iter() {
-            if let Answer::Byte(byte) = answer {
+            if let Ok(Some(byte)) = answer {
                 bytes.push(*byte)?;
             }
         }
@@ -105,18 +108,18 @@ impl<W: Drive, F: Drive> Console<W, F> {
     }
 
     // How the last command ended, by the status and the error register. This takes the interrupt back.
-    fn ending(&mut self) -> anyhow::Result<Ending> {
-        let status = self.read(STATUS)?;
-        if status & FAILED != 0 {
-            return Ok(Ending::Failed(Failure {
-                error: self.read(ERROR)?,
+    fn ending(&mut self) -> anyhow::Result<Result<Success, Failure>> {
+        let status = Status(self.read(Register::Status)?);
+        if status.is_error() {
+            return Ok(Err(Failure {
+                error: self.read(Register::Error)?,
                 fault: self.controller.last_fault(),
             }));
         }
-        if status & CORRECTED != 0 {
-            return Ok(Ending::Corrected);
+        if status.is_corrected() {
+            return Ok(Ok(Success::Corrected));
         }
-        Ok(Ending::Clean)
+        Ok(Ok(Success::Clean))
     }
 
     // Turns the controller until BUSY is off; the head stands at this cylinder then.
@@ -139,28 +142,28 @@ impl<W: Drive, F: Drive> Console<W, F> {
     // Moves the head to cylinder 0. It needs no other register, so that it can be given while bytes are still offered: it
     // drops what was left of them, and only then can other registers be written again.
     pub fn restore(&mut self) -> anyhow::Result<Outcome> {
-        self.run(&[Call::Write(COMMAND, RESTORE)])?;
+        self.run(&[write(Register::Status, u8::from(Order::Restore))])?;
         self.wait(0)
     }
 
     // Formats the track of a place with so many good sectors, numbered from 0.
     pub fn format_track(&mut self, place: Place, sectors: u8) -> anyhow::Result<Outcome> {
-        self.run(&[Call::Write(SECTOR_COUNT, sectors)])?;
-        self.command(place, FORMAT)?;
+        self.run(&[write(Register::Count, sectors)])?;
+        self.command(place, Order::Format)?;
         self.give(&format_bytes(sectors))?;
         self.wait(place.cylinder)
     }
 
     // Writes a record.
-    pub fn write_record(&mut self, place: Place, bytes: &[u8; 512]) -> anyhow::Result<Outcome> {
-        self.command(place, WRITE)?;
+    pub fn write_record(&mut self, place: Place, bytes: &[u8; RECORD]) -> anyhow::Result<Outcome> {
+        self.command(place, Order::Write)?;
         self.give(bytes)?;
         self.wait(place.cylinder)
     }
 
     // Reads a record. Where its command was aborted no byte is offered, and none is drawn.
     pub fn read_record(&mut self, place: Place) -> anyhow::Result<Record> {
-        self.command(place, READ)?;
+        self.command(place, Order::Read)?;
         let outcome = self.wait(place.cylinder)?;
         let count = if self.controller.lines().drq {
             RECORD
@@ -173,7 +176,7 @@ impl<W: Drive, F: Drive> Console<W, F> {
 
     // Begins to read a record, draws so many of its bytes, and leaves the others and the interrupt; tells the lines.
     pub fn leave_read(&mut self, place: Place, count: usize) -> anyhow::Result<Lines> {
-        self.command(place, READ)?;
+        self.command(place, Order::Read)?;
         finish(&mut self.controller);
         self.cylinder = place.cylinder;
         self.draw(count)?;

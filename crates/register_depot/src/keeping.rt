@@ -1,9 +1,10 @@
 // At the depot: the drive is restored and formatted, and the sheet is written to it.
-use super::console::{Console, RECORD};
+use super::console::Console;
 use super::outcome::Outcome;
-use super::registers::{FORMAT, RESTORE, WRITE};
-use drive::Drive;
-use records::{Grid, Place};
+use super::registers::Order;
+use cue_sheet::loaded;
+use drive::{Drive, Place};
+use records::RECORD;
 use std::io;
 
 // Sends the head to cylinder 0, at the depot or on site.
@@ -16,31 +17,48 @@ pub fn restore<W: Drive, F: Drive>(
         .restore()?
         .required(rt.alloc(), "the head could not be restored")?;
     let turns = outcome.turns;
-    println!(rt; "{here}: restore, command {RESTORE:02x}h, turns: {turns}")?;
+    let order = Order::Restore;
+    println!(rt; "{here}: restore, command {order}, turns: {turns}")?;
     Ok(())
 }
 
-// Formats every track that has room for a record, with as many as it has room for.
+// Formats the track of a place with as many records as tracks have room for; tells the turns that took.
+fn format_track<W: Drive, F: Drive>(
+    rt: &HostRuntime,
+    console: &mut Console<W, F>,
+    place: Place,
+) -> anyhow::Result<u32> {
+    let sectors = console.grid().sectors;
+    let outcome = console
+        .format_track(place, sectors)?
+        .required(rt.alloc(), "a track could not be formatted")?;
+    Ok(u32::from(outcome.turns))
+}
+
+// Formats every track, if tracks have room for a record.
 fn format_tracks<W: Drive, F: Drive>(
     rt: &HostRuntime,
     console: &mut Console<W, F>,
-    grid: Grid,
 ) -> anyhow::Result<()> {
-    let sectors = grid.sectors;
+    let grid = console.grid();
+    let heads = if grid.sectors == 0 { 0 } else { grid.heads };
     let mut tracks = 0usize;
     let mut turns = 0u32;
-    for track in 0..grid.cylinders as usize * grid.heads as usize {
-        let Some(place) = grid.place(track.saturating_mul(sectors as usize)) else {
-            break;
-        };
-        let outcome = console
-            .format_track(place, sectors)?
-            .required(rt.alloc(), "a track could not be formatted")?;
-        tracks = tracks.saturating_add(1);
-        turns = turns.saturating_add(u32::from(outcome.turns));
+    for cylinder in 0..grid.cylinders {
+        for head in 0..heads {
+            let place = Place {
+                cylinder,
+                head,
+                number: 0,
+            };
+            turns = turns.saturating_add(format_track(rt, console, place)?);
+            tracks = tracks.saturating_add(1);
+        }
     }
+    let order = Order::Format;
+    let sectors = grid.sectors;
     println!(rt;
-        "depot: format, {tracks} commands {FORMAT:02x}h, sectors on each track: {sectors}, turns: {turns}"
+        "depot: format, {tracks} commands {order}, sectors on each track: {sectors}, turns: {turns}"
     )?;
     Ok(())
 }
@@ -49,21 +67,12 @@ fn format_tracks<W: Drive, F: Drive>(
 pub fn prepare<W: Drive, F: Drive>(
     rt: &HostRuntime,
     console: &mut Console<W, F>,
-    grid: Grid,
 ) -> anyhow::Result<()> {
     let outcome = console.test()?.required(rt.alloc(), "the test failed")?;
     let turns = outcome.turns;
     println!(rt; "depot: test at power-on, turns: {turns}")?;
     restore(rt, console, "depot")?;
-    format_tracks(rt, console, grid)
-}
-
-// A record's bytes: a part of the sheet, and zeros after it.
-fn loaded(part: &[u8]) -> [u8; 512] {
-    let mut bytes = [0u8; RECORD];
-    let length = part.len().min(RECORD);
-    bytes[0..length].copy_from_slice(&part[0..length]);
-    bytes
+    format_tracks(rt, console)
 }
 
 // Tells of a record that was not written at once.
@@ -91,6 +100,7 @@ pub fn store<W: Drive, F: Drive>(
         turns = turns.saturating_add(u32::from(outcome.turns));
     }
     let records = places.len();
-    println!(rt; "depot: write, {records} commands {WRITE:02x}h, turns: {turns}")?;
+    let order = Order::Write;
+    println!(rt; "depot: write, {records} commands {order}, turns: {turns}")?;
     Ok(())
 }

@@ -8,56 +8,49 @@
 mod console;
 mod faults;
 mod fetching;
-mod fitting;
 mod keeping;
 mod outcome;
 mod registers;
 
 use console::Console;
 use controller::Controller;
-use cue_sheet::{count_lines, first_difference};
+use drive::{Bay, Geometry};
 use fault_table::FaultTable;
-use faults::lay;
+use faults::FAULTS;
 use fetching::{fetch, leave_half};
-use fitting::{asked_for, floppy, places_for, winchester};
+use image::{FloppyImage, blank_memory, fitted};
 use keeping::{prepare, restore, store};
-use std::io;
-use std::io::Read;
+use program_parts::{asked_for, lay, print_comparison, read_sheet, winchester};
+use records::{Grid, RECORD};
+use std::alloc::{AllocError, Global};
 
-// The sheet on standard input.
-fn read_sheet(rt: &HostRuntime) -> io::Result<Vec<u8>> {
-    let mut sheet = Vec::new(rt.alloc());
-    rt.stdin().read_to_end(&mut sheet)?;
-    let lines = count_lines(&sheet);
-    let bytes = sheet.len();
-    println!(rt; "sheet: {lines} lines, {bytes} bytes")?;
-    Ok(sheet)
-}
+// The floppy's measures.
+const FLOPPY: Geometry = Geometry {
+    cylinders: 40,
+    heads: 2,
+    capacity: 4096,
+};
 
-// Compares the script with the sheet, and tells the first line that differs.
-fn print_comparison(rt: &HostRuntime, sheet: &[u8], script: &[u8]) -> io::Result<()> {
-    let lines = count_lines(script);
-    println!(rt; "script: {lines} lines")?;
-    match first_difference(sheet, script) {
-        None => println!(rt; "sheet and script match, line for line"),
-        Some(line) => println!(rt; "sheet and script differ, first in line {line}"),
-    }
+// A blank floppy in its bay.
+fn floppy(heap: Global) -> Result<Bay<FloppyImage>, AllocError> {
+    let memory = blank_memory(heap, FLOPPY)?;
+    Ok(fitted(FloppyImage::new(FLOPPY, false, memory)))
 }
 
 // Takes the sheet to the drive and the script from it, with one controller from first to last.
 fn run(rt: &HostRuntime) -> anyhow::Result<()> {
     let sheet = read_sheet(rt)?;
-    let measures = asked_for(rt)?;
-    let bay = winchester(rt, measures)?;
-    let grid = measures.grid();
-    let places = places_for(rt.alloc(), grid, sheet.len())?;
+    let geometry = asked_for(rt, "register_depot")?;
+    let bay = winchester(rt, geometry)?;
+    let grid = Grid::from(geometry);
+    let places = grid.places(rt.alloc(), sheet.len().div_ceil(RECORD))?;
     let mut damaged = FaultTable::over(bay);
-    lay(rt, &mut damaged, &places)?;
+    lay(rt, &mut damaged, &places, FAULTS)?;
     let controller = Controller::new(damaged, floppy(rt.alloc())?);
-    let mut console = Console::new(controller, rt.alloc());
-    prepare(rt, &mut console, grid)?;
+    let mut console = Console::new(controller, rt.alloc(), grid);
+    prepare(rt, &mut console)?;
     store(rt, &mut console, &places, &sheet)?;
-    leave_half(rt, &mut console, grid)?;
+    leave_half(rt, &mut console)?;
     restore(rt, &mut console, "site")?;
     let mut script = fetch(rt, &mut console, &places)?;
     script.truncate(sheet.len());

@@ -11,13 +11,12 @@ pub struct Failure {
     pub fault: Option<Fault>,
 }
 
-// How a command ended.
+// How a command that did not fail ended.
 #[derive(Clone, Copy)]
-pub enum Ending {
+pub enum Success {
     Clean,
     // The sector had a burst of wrong bits, and was corrected.
     Corrected,
-    Failed(Failure),
 }
 
 // What came of a command.
@@ -27,7 +26,7 @@ pub struct Outcome {
     pub turns: u16,
     // The turns that were no steps of the head.
     pub attempts: u16,
-    pub ending: Ending,
+    pub ending: Result<Success, Failure>,
 }
 
 impl fmt::Display for Failure {
@@ -56,8 +55,8 @@ impl Outcome {
     // The outcome of a command that has to succeed; a failure becomes an error that begins with these words.
     pub fn required(self, heap: Global, words: &str) -> anyhow::Result<Outcome> {
         match self.ending {
-            Ending::Failed(failure) => Err(anyhow!(format!(in heap; "{words}: {failure}")?)),
-            _ => Ok(self),
+            Err(failure) => Err(anyhow!(format!(in heap; "{words}: {failure}")?)),
+            Ok(_) => Ok(self),
         }
     }
 }

@@ -1,41 +1,56 @@
-// The registers of a controller by number, and what a console writes to them and reads from them.
+// What a console writes to the registers of a controller, and what it reads from them.
+use histories::Call;
+use std::fmt;
+use task_file::Register;
 
-// Bytes of a sector, one after another.
-pub const DATA: u8 = 0;
+// The commands that a console gives, each by its byte.
+#[derive(Clone, Copy)]
+pub enum Order {
+    Restore = 0x10,
+    Read = 0x20,
+    Write = 0x30,
+    Format = 0x50,
+}
 
-// Why a command failed.
-pub const ERROR: u8 = 1;
+impl From<Order> for u8 {
+    fn from(order: Order) -> u8 {
+        order as u8
+    }
+}
 
-pub const SECTOR_COUNT: u8 = 2;
+impl fmt::Display for Order {
+    fn fmt<W: fmt::Write>(&self, f: &mut fmt::Formatter<W>) -> fmt::Result {
+        let byte = u8::from(*self);
+        write!(f, "{byte:02x}h")
+    }
+}
 
-pub const SECTOR_NUMBER: u8 = 3;
-
-pub const CYLINDER_LOW: u8 = 4;
-
-pub const CYLINDER_HIGH: u8 = 5;
-
-// Check code, sector size, drive and head.
-pub const SDH: u8 = 6;
-
-// The status is read from the register that commands are written to.
-pub const STATUS: u8 = 7;
-
-pub const COMMAND: u8 = 7;
-
-// SDH for head 0 of Winchester 1, with sectors of 512 bytes under ECC.
+// SDH for head 0 of Winchester 1, with sectors of 512 bytes under ECC; the head is added. It is one byte of four fields, and
+// names no kind.
 pub const ECC_512: u8 = 0xa0;
 
-// A bit of the status: the command failed.
-pub const FAILED: u8 = 0x01;
+// What the status says once a command has ended.
+#[derive(Clone, Copy)]
+pub struct Status(pub u8);
 
-// A bit of the status: a sector was corrected.
-pub const CORRECTED: u8 = 0x04;
+impl Status {
+    // The command failed.
+    pub fn is_error(self) -> bool {
+        self.0 & 0x01 != 0
+    }
 
-// The commands.
-pub const RESTORE: u8 = 0x10;
+    // A sector was corrected.
+    pub fn is_corrected(self) -> bool {
+        self.0 & 0x04 != 0
+    }
+}
 
-pub const READ: u8 = 0x20;
+// A read of a register.
+pub fn read(register: Register) -> Call {
+    Call::Read(u8::from(register))
+}
 
-pub const WRITE: u8 = 0x30;
-
-pub const FORMAT: u8 = 0x50;
+// A write to a register.
+pub fn write(register: Register, byte: u8) -> Call {
+    Call::Write(u8::from(register), byte)
+}

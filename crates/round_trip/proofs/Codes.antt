@@ -11,9 +11,9 @@ use Rattle.check_code.specs.declared.mode.CheckMode.TheVariants.{Crc, Ecc}
 use Rattle.check_code.specs.Code.{width, enter, append, ecc_code, check_bytes_of, digits_of, amount_of}
 use Rattle.check_code.specs.Laws.{Sound, damaged_difference}
 use Rattle.check_code.specs.Mode.{code_of}
-use Rattle.check_code.specs.Fold.{fold_zero}
-use Rattle.check_code.specs.LawsLemmas.{whole, inverting, balance_cong}
-use Rattle.check_code.specs.Window.{amount_shows}
+use Rattle.check_code.proofs.Fold.{fold_zero}
+use Rattle.check_code.proofs.Laws.{whole, inverting, balance_cong}
+use Rattle.check_code.proofs.Window.{amount_shows}
 use Rattle.check_code.specs.Sound.{crc_sound, ecc_sound}
 use Rattle.burst.specs.Search.{bits_of, set_of, first_burst}
 use Rattle.burst.specs.Mending.{Delivered}

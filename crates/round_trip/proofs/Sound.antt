@@ -1,20 +1,20 @@
 -- Drives whose head stands on a cylinder and whose sectors have their length, and that every call keeps them so.
-use Rattle.std.proofs.Common.{All, ◌≡◌, ℕ, ◌+◌, ◌-◌, ◌*◌, ◌<◌, ◌≤◌, Bool, ◌&&◌, eqb, ltb, List, length, get_or, take, drop, set, Some, None, Option, sym, refl, ap, ◌∙◌, subst, inl, inr, arith, length-append, length-drop, length-set, get_or-set_other, get_or-set_same}
+use Rattle.std.proofs.Common.{All, ◌≡◌, ℕ, ◌<◌, ◌≤◌, Bool, ◌&&◌, eqb, List, length, get_or, take, set, Some, None, Option, sym, refl, ap, ◌∙◌, subst, inl, inr, arith, length-set, get_or-set_other, get_or-set_same}
 use lib.ListN.{length-replicate}
 use Rattle.std.proofs.lemmas.List.{length-take-le}
-use Rattle.std.proofs.lemmas.Bool.{cond_both, cases_eq, and_parts, ltb-true}
+use Rattle.std.proofs.lemmas.Bool.Decides.{nat_tests}
+use Rattle.std.proofs.lemmas.Grind.{common_steps}
+use Rattle.std.proofs.lemmas.Bool.{cond_both}
 use Rattle.sector.specs.declared.size.SizeCode.{SizeCode}
 use Rattle.sector.specs.Sizes.{bytes_of}
-use Rattle.sector.specs.Bits.{BitSet, inverted, from_bit}
+use Rattle.sector.specs.Bits.{BitSet}
 use Rattle.sector.proofs.Sizes.{bytes_most}
 use Rattle.sector.proofs.Inverted.{length-inverted}
 use Rattle.drive.specs.declared.buffer.SectorBuffer.{SectorBuffer}
 use Rattle.drive.specs.declared.answers.SectorId.{SectorId}
-use Rattle.drive.specs.Model.{Sector, no_sector, slot_of, blank_track, Showing, no_id, no_data_mark, wrong_bits, DriveModel, at_cylinder, with_track, replaced, track}
+use Rattle.drive.specs.Model.{Sector, no_sector, slot_of, blank_track, Showing, no_id, no_data_mark, wrong_bits, DriveModel, with_track, replaced, track}
 use Rattle.drive.specs.Bounds.{Whole}
-use Rattle.drive.specs.Calls.{on_slot, track_under, shown, attempted, delivered, attempted_at, stepped_in, stepped_out, handed_over, after_read, written, after_write, after_format}
-use Rattle.controller.specs.Turns.{nearer}
-use Rattle.histories.proofs.Drives.{after_read_all}
+use Rattle.drive.specs.Calls.{nearer, on_slot, track_under, shown, attempted, delivered, attempted_at, stepped_in, stepped_out, handed_over, after_read, written, after_write, after_format}
 use Rattle.round_trip.specs.Laws.{ADrive}
 use Rattle.round_trip.proofs.Tracks.{meant_at, blank_at}
 use Rattle.round_trip.proofs.Attempts as attempt
@@ -43,38 +43,25 @@ pub sound_drive : (d : DriveModel) → ADrive d → Sound d
 sound_drive d a = record { inside = a.inside; few = a.few_cylinders; sized = λ c h. all_at (d.track c h) (a.whole_sectors c h) }
 
 -- ---- steps and outlooks
-pub sound_in : (d : DriveModel) → Sound d → Sound (stepped_in d)
-unfolding stepped_in
-sound_in d s =
-    cond_both (d.ready && ltb (d.cylinder + 1) d.cylinders) (at_cylinder d (d.cylinder + 1)) d Sound
-    (λ e. record { inside = ltb-true _ _ (and_parts d.ready _ e).1; few = s.few; sized = s.sized })
-    (λ _. s)
-
 pub sound_out : (d : DriveModel) → Sound d → Sound (stepped_out d)
 unfolding stepped_out
-sound_out d s =
-    cond_both (d.ready && ltb 0 d.cylinder) (at_cylinder d (d.cylinder - 1)) d Sound
-    (λ e. record { inside = omega (arith, s.inside); few = s.few; sized = s.sized })
-    (λ _. s)
+sound_out d s = record { inside = grind arith; few = grind arith; sized = λ c h k here. (grind (arith, s.sized), grind (arith, s.sized)) }
 
-pub sound_nearer : (d : DriveModel) (c : ℕ) → Sound d → Sound (nearer d c)
-sound_nearer d c s =
-    cond_both (ltb d.cylinder c) (stepped_in d) _ Sound (λ _. sound_in d s)
-    (λ _. cond_both (ltb c d.cylinder) (stepped_out d) d Sound (λ _. sound_out d s) (λ _. s))
+pub sound_nearer : (d : DriveModel) (goal : ℕ) → Sound d → Sound (nearer d goal)
+unfolding stepped_in stepped_out
+sound_nearer d goal s = record { inside = grind (arith, nat_tests); few = grind arith; sized = λ c h k here. (grind (arith, s.sized), grind (arith, s.sized)) }
 
 pub sound_attempted : (d : DriveModel) (head number : ℕ) → Sound d → Sound (attempted_at d head number)
 sound_attempted d head number s = record { inside = s.inside; few = s.few; sized = s.sized }
 
 pub sound_read : (d : DriveModel) (head number : ℕ) → Sound d → Sound (after_read d head number)
-sound_read d head number s = after_read_all Sound d s head number (sound_attempted d head number s)
+unfolding after_read
+sound_read d head number s = cond_both d.ready _ d Sound (λ _. sound_attempted d head number s) (λ _. s)
 
 -- ---- writes and formats
 sized_set : (ss : List Sector) (k : ℕ) (y : Sector) → k < length ss → Sized y → SizedTrack ss → SizedTrack (set ss k y)
 sized_set ss k y here sy all j h =
-    elim (cases_eq j k) [
-      | inl e ↦ subst (λ n. Sized (get_or (set ss k y) n no_sector)) (sym e) (subst Sized (sym (get_or-set_same ss k y no_sector here)) sy)
-      | inr ne ↦ subst Sized (sym (get_or-set_other ss k j y no_sector ne)) (all j (subst (λ n. j < n) (length-set ss k y) h))
-    ]
+    (grind (arith, length-set {A = Sector}, get_or-set_same, get_or-set_other, all j), grind (arith, length-set {A = Sector}, get_or-set_same, get_or-set_other, all j))
 
 sized_replaced : (tracks : ℕ → ℕ → List Sector) (cylinder head : ℕ) (new : List Sector) → ((c h : ℕ) → SizedTrack (tracks c h)) → SizedTrack new → (c h : ℕ) → SizedTrack (replaced tracks cylinder head new c h)
 sized_replaced tracks cylinder head new all fresh c h = cond_both (eqb c cylinder && eqb h head) new (tracks c h) SizedTrack (λ _. fresh) (λ _. all c h)
@@ -102,33 +89,24 @@ sound_formatted d head ids size check four s =
     }
 
 pub sound_write : (d : DriveModel) (head number : ℕ) (size : SizeCode) (b : SectorBuffer) → Buffered b → Sound d → Sound (after_write d head number size b)
-sound_write d head number size b f s = go (attempt.wrote d head number size b)
+sound_write d head number size b f s = by_attempt (attempt.wrote d head number size b)
   where
-    go : {a : _} {e : DriveModel} → attempt.Wrote d head number size b a e → Sound e
-    go (attempt.replaced k slot done is) = subst Sound (sym is) (sound_written d head number size b k slot f s)
-    go (attempt.kept no-done (inl is)) = subst Sound (sym is) s
-    go (attempt.kept no-done (inr is)) = subst Sound (sym is) (sound_attempted d head number s)
+    by_attempt : {a : _} {e : DriveModel} → attempt.Wrote d head number size b a e → Sound e
+    by_attempt (attempt.replaced k slot done is) = subst Sound (sym is) (sound_written d head number size b k slot f s)
+    by_attempt (attempt.kept not_done (inl is)) = subst Sound (sym is) s
+    by_attempt (attempt.kept not_done (inr is)) = subst Sound (sym is) (sound_attempted d head number s)
 
 pub sound_format : (d : DriveModel) (head : ℕ) (ids : List SectorId) (size : SizeCode) (check : List ℕ) → length check ≡ 4 → Sound d → Sound (after_format d head ids size check)
-sound_format d head ids size check four s = go (attempt.formats d head ids size check)
+sound_format d head ids size check four s = by_format (attempt.formats d head ids size check)
   where
-    go : {done : Bool} {e : DriveModel} → attempt.Formats d head ids size check done e → Sound e
-    go (attempt.laid done is) = subst Sound (sym is) (sound_formatted d head ids size check four s)
-    go (attempt.refused done is) = subst Sound (sym is) s
+    by_format : {done : Bool} {e : DriveModel} → attempt.Formats d head ids size check done e → Sound e
+    by_format (attempt.laid done is) = subst Sound (sym is) (sound_formatted d head ids size check four s)
+    by_format (attempt.refused done is) = subst Sound (sym is) s
 
 -- ---- the buffer
 -- a delivered sector fills the front of the buffer
 pub delivered_buffered : (w : BitSet) (s : Sector) (b : SectorBuffer) → Sized s → Buffered b → Buffered (delivered (wrong_bits w) s b)
-delivered_buffered w s b z f =
-    let few : length s.bytes ≤ 1024 = omega (arith, z.0, bytes_most s.size) in
-    record {
-      bytes_long =
-          length-append (inverted w s.bytes) (drop (length s.bytes) b.bytes)
-          ∙ (let a = length-inverted w s.bytes in
-          let c = length-drop (length s.bytes) b.bytes in
-          omega (arith, f.bytes_long));
-      check_long = length-inverted (from_bit (8 * length s.bytes) w) s.check ∙ z.1;
-    }
+delivered_buffered w s b z f = record { bytes_long = grind (arith, common_steps, length-inverted, bytes_most); check_long = grind (arith, length-inverted) }
 
 slot_buffered : (d : DriveModel) (head number : ℕ) (size : SizeCode) (sh : Showing) (b : SectorBuffer) → Sound d → Buffered b → (o : Option ℕ) → slot_of (track_under d head) number size ≡ o
     → Buffered (on_slot o (track_under d head) b b (λ k. delivered sh (get_or (track_under d head) k no_sector) b))
@@ -136,12 +114,12 @@ slot_buffered d head number size sh b s f None e = f
 slot_buffered d head number size sh b s f (Some k) e =
     let here = (meant_at (track_under d head) number size k e).0 in
     cond_both (get_or (track_under d head) k no_sector).bad b (delivered sh (get_or (track_under d head) k no_sector) b) Buffered
-    (λ _. f) (λ _. go sh (s.sized d.cylinder head k here))
+    (λ _. f) (λ _. by_showing sh (s.sized d.cylinder head k here))
   where
-    go : (x : Showing) → Sized (get_or (track_under d head) k no_sector) → Buffered (delivered x (get_or (track_under d head) k no_sector) b)
-    go no_id z = f
-    go no_data_mark z = f
-    go (wrong_bits w) z = delivered_buffered w (get_or (track_under d head) k no_sector) b z f
+    by_showing : (x : Showing) → Sized (get_or (track_under d head) k no_sector) → Buffered (delivered x (get_or (track_under d head) k no_sector) b)
+    by_showing no_id z = f
+    by_showing no_data_mark z = f
+    by_showing (wrong_bits w) z = delivered_buffered w (get_or (track_under d head) k no_sector) b z f
 
 shown_buffered : (d : DriveModel) (head number : ℕ) (size : SizeCode) (sh : Showing) (b : SectorBuffer) → Sound d → Buffered b
     → Buffered (attempted sh (track_under d head) number size b b (λ k. delivered sh (get_or (track_under d head) k no_sector) b))

@@ -1,8 +1,8 @@
 -- Which sector stands at a place on a track, and that writing one moves no other.
-use Rattle.std.proofs.Common.{◌≡◌, ℕ, zero, suc, ◌+◌, ◌<◌, Bool, true, false, cond, ◌&&◌, eqb, List, [], ◌∷◌, length, get_or, set, replicate, is_some as option_is_some, Some, None, Option, sym, refl, ap, ◌∙◌, subst, ap₂, inl, inr, add-zero, arith, get_or-set_other, get_or-set_same}
-use Rattle.std.proofs.lemmas.Bool.{cases_Bool, cond-true, cond-false, and_parts, eqb-true, eq-eqb}
+use Rattle.std.proofs.Common.{◌≡◌, ℕ, zero, suc, ◌+◌, ◌<◌, Bool, true, cond, eqb, List, [], ◌∷◌, length, get_or, set, replicate, is_some as option_is_some, Some, None, Option, sym, refl, ap, ◌∙◌, subst, inl, inr, add-zero, arith, get_or-set_other, get_or-set_same}
+use Rattle.std.proofs.lemmas.Bool.{cases_Bool, cond-true, cond-false, and_parts, eqb-true}
+use Rattle.std.proofs.lemmas.Bool.Decides.{nat_tests}
 use Rattle.sector.specs.declared.size.SizeCode.{SizeCode}
-use Rattle.sector.specs.declared.size.SizeCode.TheVariants.{Bytes256, Bytes512, Bytes1024, Bytes128}
 use Rattle.sector.specs.Sizes.{bytes_of, number_of}
 use Rattle.drive.specs.declared.answers.SectorId.{SectorId}
 use Rattle.drive.specs.Search.{first_from, first_match}
@@ -12,35 +12,20 @@ use Rattle.round_trip.specs.Ledger.{numbered}
 -- ---- sizes
 -- two codes of one number are one
 pub same_code : (a b : SizeCode) → number_of a ≡ number_of b → a ≡ b
-same_code Bytes256 Bytes256 e = refl
-same_code Bytes256 Bytes512 e = absurd (omega arith)
-same_code Bytes256 Bytes1024 e = absurd (omega arith)
-same_code Bytes256 Bytes128 e = absurd (omega arith)
-same_code Bytes512 Bytes256 e = absurd (omega arith)
-same_code Bytes512 Bytes512 e = refl
-same_code Bytes512 Bytes1024 e = absurd (omega arith)
-same_code Bytes512 Bytes128 e = absurd (omega arith)
-same_code Bytes1024 Bytes256 e = absurd (omega arith)
-same_code Bytes1024 Bytes512 e = absurd (omega arith)
-same_code Bytes1024 Bytes1024 e = refl
-same_code Bytes1024 Bytes128 e = absurd (omega arith)
-same_code Bytes128 Bytes256 e = absurd (omega arith)
-same_code Bytes128 Bytes512 e = absurd (omega arith)
-same_code Bytes128 Bytes1024 e = absurd (omega arith)
-same_code Bytes128 Bytes128 e = refl
+same_code a b e = grind arith
 
 -- ---- the first match
 -- where it is found, it passes the test
 pub found_from : {A : Type 0} (test : A → Bool) (d : A) (i : ℕ) (xs : List A) (k : ℕ) → first_from test i xs ≡ Some k → (j : ℕ) × ((k ≡ i + j) × (j < length xs) × (test (get_or xs j d) ≡ true))
-found_from test d i [] k e = absurd (let z : ◌≡◌ {A = ℕ} 0 1 = cc in omega arith)
+found_from test d i [] k e = cc
 found_from {A} test d i (x ∷ xs) k e =
     elim (cases_Bool (test x)) [
-      | inl yes-x ↦
-          let at : Some i ≡ Some k = sym (cond-true (test x) (Some i) (first_from test (i + 1) xs) yes-x) ∙ e in
+      | inl found_here ↦
+          let at : Some i ≡ Some k = sym (cond-true (test x) (Some i) (first_from test (i + 1) xs) found_here) ∙ e in
           let here : i ≡ k = cc in
-          (0, (sym here ∙ sym (add-zero i), omega arith, yes-x))
-      | inr no-x ↦
-          let later = found_from test d (i + 1) xs k (sym (cond-false (test x) (Some i) (first_from test (i + 1) xs) no-x) ∙ e) in
+          (0, (sym here ∙ sym (add-zero i), omega arith, found_here))
+      | inr not_here ↦
+          let later = found_from test d (i + 1) xs k (sym (cond-false (test x) (Some i) (first_from test (i + 1) xs) not_here) ∙ e) in
           (suc later.0, (omega (arith, later.1.0), omega (arith, later.1.1), later.1.2))
     ]
 
@@ -103,17 +88,10 @@ module _ (track : List Sector) (number : ℕ) (size : SizeCode) (k : ℕ) (bytes
       }
 
 -- ---- a track formatted
-and_true : (b : Bool) → b && true ≡ b
-and_true true = refl
-and_true false = refl
-
 -- a format's first sector of a number is its first ID of that number
 blank_first : (ids : List SectorId) (size : SizeCode) (check : List ℕ) (number i : ℕ) → first_from (is_meant number size) i (blank_track ids size check) ≡ first_from (λ (id : SectorId). eqb id.number number) i ids
 blank_first [] size check number i = refl
-blank_first (id ∷ ids) size check number i =
-    ap₂ (λ t o. cond t (Some i) o)
-    (ap (λ t. eqb id.number number && t) (eq-eqb (number_of size) (number_of size) refl) ∙ and_true (eqb id.number number))
-    (blank_first ids size check number (i + 1))
+blank_first (id ∷ ids) size check number i = grind (arith, nat_tests, blank_first ids size check number (i + 1))
 
 pub blank_at : (ids : List SectorId) (size : SizeCode) (check : List ℕ) (k : ℕ) → k < length (blank_track ids size check) → ((get_or (blank_track ids size check) k no_sector).bytes ≡ replicate (bytes_of size) 0) × ((get_or (blank_track ids size check) k no_sector).check ≡ check) × ((get_or (blank_track ids size check) k no_sector).size ≡ size)
 blank_at [] size check k h = absurd (omega arith)
@@ -122,7 +100,7 @@ blank_at (id ∷ ids) size check (suc k) h = blank_at ids size check k (omega ar
 
 is_some : {A : Type 0} (o : Option A) → option_is_some o ≡ true → (x : A) × (o ≡ Some x)
 is_some (Some x) e = (x, refl)
-is_some None e = absurd (let z : ◌≡◌ {A = ℕ} 0 1 = cc in omega arith)
+is_some None e = cc
 
 pub stands_formatted : (ids : List SectorId) (size : SizeCode) (check : List ℕ) (number : ℕ) → numbered ids number ≡ true → Stands (blank_track ids size check) number size (replicate (bytes_of size) 0) check
 stands_formatted ids size check number e =

@@ -1,11 +1,11 @@
 -- A turn of a job on a drive: the drive stays sound, the state kept, and the tracks change as the event says.
-use Rattle.std.proofs.Common.{◌≡◌, ℕ, Bool, true, false, cond, not, ◌&&◌, eqb, ltb, List, [], take, Some, Option, sym, refl, ap, subst, inl, inr}
+use Rattle.std.proofs.Common.{◌≡◌, ℕ, Bool, true, false, cond, not, ◌&&◌, eqb, ltb, List, [], take, Some, Option, sym, refl, subst, is_ok, Result, arith}
 use Rattle.std.proofs.lemmas.Bool.{cond_both, eqb-true}
 use Rattle.sector.specs.Sizes.{bytes_of}
 use Rattle.drive.specs.declared.buffer.SectorBuffer.{SectorBuffer}
-use Rattle.drive.specs.declared.answers.Writing.{Writing}
-use Rattle.drive.specs.Model.{slot_of, blank_track, DriveModel, with_track, replaced, track}
-use Rattle.drive.specs.Calls.{attempted_at, stepped_in, stepped_out, read_answer, handed_over, write_answer, written, format_answer, is_formatted}
+use Rattle.drive.specs.declared.answers.WriteError.{WriteError}
+use Rattle.drive.specs.Model.{slot_of, blank_track, DriveModel, replaced}
+use Rattle.drive.specs.Calls.{nearer, stepped_in, stepped_out, read_answer, handed_over, after_read, write_answer, format_answer}
 use Rattle.task_file.specs.declared.command.Command.{Command}
 use Rattle.task_file.specs.declared.command.Command.TheVariants as command
 use Rattle.task_file.specs.declared.state.ReadJob.{ReadJob}
@@ -17,9 +17,8 @@ use Rattle.task_file.specs.declared.state.State.{State}
 use Rattle.task_file.specs.Registers.{cylinder_of, size_at, mode_at}
 use Rattle.task_file.specs.State.{with_phase, with_buffer, ended, requests}
 use Rattle.task_file.specs.Attempts.{zero_check}
-use Rattle.controller.specs.Turns.{Turned, turned, restore_turn, nearer, once_there, read_act, write_act, format_act, ids_asked, worked}
-use Rattle.histories.proofs.Drives.{after_read_all, stepped_in_all, stepped_out_all}
-use Rattle.round_trip.specs.Events.{Bay, Event, nothing, sector_written, track_formatted, is_written}
+use Rattle.controller.specs.Turns.{Turned, turned, restore_turn, once_there, read_act, write_act, format_act, ids_asked, worked}
+use Rattle.round_trip.specs.Events.{track_named, sector_named, Bay, Event, nothing, sector_written, track_formatted}
 use Rattle.round_trip.proofs.Tracks.{rewritten_at}
 use Rattle.round_trip.proofs.Attempts as attempt
 use Rattle.round_trip.proofs.Sound.{Sound, Buffered, sound_out, sound_nearer, sound_read, sound_write, sound_format, handed_buffered}
@@ -40,29 +39,39 @@ Changes bay d e b (track_formatted name ids size mode) =
     (name.bay ≡ bay) × ((c h : ℕ) → e.track c h ≡ replaced d.track name.cylinder name.head (blank_track ids size (zero_check mode size)) c h)
 
 -- ---- calls that leave the tracks
-unchanged_nearer : (d : DriveModel) (c : ℕ) → Unchanged d (nearer d c)
-unchanged_nearer d c =
-    cond_both (ltb d.cylinder c) (stepped_in d) _ (Unchanged d) (λ _. stepped_in_all (Unchanged d) d (λ a h. refl) (λ a h. refl))
-    (λ _. cond_both (ltb c d.cylinder) (stepped_out d) d (Unchanged d) (λ _. stepped_out_all (Unchanged d) d (λ a h. refl) (λ a h. refl)) (λ _ a h. refl))
+unchanged_nearer : (d : DriveModel) (goal : ℕ) → Unchanged d (nearer d goal)
+unfolding stepped_in stepped_out
+unchanged_nearer d goal c h = grind arith
+
+unchanged_out : (d : DriveModel) → Unchanged d (stepped_out d)
+unfolding stepped_out
+unchanged_out d c h = grind arith
+
+unchanged_read : (d : DriveModel) (head number : ℕ) → Unchanged d (after_read d head number)
+unfolding after_read
+unchanged_read d head number c h = grind arith
 
 -- ---- one turn
-pub record Result (bay : Bay) (taken : List ℕ) (o : Option Command) (s : State) (d : DriveModel) (event : Event) (t : Turned) : Type 0 where
+pub record Leaves (bay : Bay) (taken : List ℕ) (o : Option Command) (s : State) (d : DriveModel) (event : Event) (t : Turned) : Type 0 where
   pub sound : Sound t.drive
   pub kept : Kept (turn_taken taken t.state) o t.state
   pub changes : Changes bay d t.drive s.buffer event
 
--- the events of a write and of a format, by what the drive answers and whether the head is there
+-- the events of a write and of a format at the cylinder of the registers, where the drive does them
+abbrev pub written_event : Bay → ℕ → State → WriteJob → Event
+written_event bay head s j = sector_written (sector_named bay head s.registers) (mode_at s.registers.sdh) (not j.mode.long)
+
+abbrev pub formatted_event : Bay → ℕ → State → Event
+formatted_event bay head s = track_formatted (track_named bay head s.registers) (ids_asked s) (size_at s.registers.sdh) (mode_at s.registers.sdh)
+
+-- the same, by what the drive answers and whether the head is there
 abbrev pub write_event_by : Bool → Bay → ℕ → State → WriteJob → DriveModel → Event
 write_event_by there bay head s j d =
-    cond (there && is_written (write_answer d head s.registers.number (size_at s.registers.sdh)))
-    (sector_written (record { track = record { bay = bay; cylinder = cylinder_of s.registers; head = head }; number = s.registers.number; size = size_at s.registers.sdh }) (mode_at s.registers.sdh) (not j.mode.long))
-    nothing
+    cond (there && is_ok (write_answer d head s.registers.number (size_at s.registers.sdh))) (written_event bay head s j) nothing
 
 abbrev pub format_event_by : Bool → Bay → ℕ → State → DriveModel → Event
 format_event_by there bay head s d =
-    cond (there && is_formatted (format_answer d head (ids_asked s) (size_at s.registers.sdh)))
-    (track_formatted (record { bay = bay; cylinder = cylinder_of s.registers; head = head }) (ids_asked s) (size_at s.registers.sdh) (mode_at s.registers.sdh))
-    nothing
+    cond (there && is_ok (format_answer d head (ids_asked s) (size_at s.registers.sdh))) (formatted_event bay head s) nothing
 
 -- the event of a job's turn
 abbrev pub job_event : Bay → ℕ → State → DriveModel → Job → Event
@@ -75,7 +84,7 @@ job_event bay head s d Format = format_event_by (eqb d.cylinder (cylinder_of s.r
 
 module _ (bay : Bay) (taken : List ℕ) (o : Option Command) (head : ℕ) (s : State) (d : DriveModel) (sound : Sound d) where
   abbrev R : Event → Turned → Type 0
-  R = Result bay taken o s d
+  R = Leaves bay taken o s d
 
   abbrev goal : ℕ
   goal = cylinder_of s.registers
@@ -94,13 +103,13 @@ module _ (bay : Bay) (taken : List ℕ) (o : Option Command) (head : ℕ) (s : S
 
   restore_result : (steps : ℕ) → s.phase ≡ Busy (Restore steps) → Kept taken o s → R nothing (restore_turn s steps d)
   restore_result steps e k =
-      let a = subst (λ p. Agrees p o) e k.agrees in
+      let a = rw e at k.agrees in
       cond_both (eqb d.cylinder 0) _ _ (R nothing) (λ _. ended_result k.buffered)
       (λ _. cond_both (ltb steps 1024) _ _ (R nothing)
       (λ _. record {
         sound = sound_out d sound;
         kept = record { buffered = k.buffered; fits = tt; agrees = a };
-        changes = stepped_out_all (Unchanged d) d (λ c h. refl) (λ c h. refl);
+        changes = unchanged_out d;
       })
       (λ _. record { sound = sound; kept = record { buffered = k.buffered; fits = tt; agrees = tt }; changes = λ c h. refl }))
 
@@ -111,35 +120,24 @@ module _ (bay : Bay) (taken : List ℕ) (o : Option Command) (head : ℕ) (s : S
       record {
         sound = sound_read d head number sound;
         kept = read_kept _ o j a (read_answer d head number size) (with_buffer s (handed_over d head number size s.buffer)) head (handed_buffered d head number size s.buffer sound f);
-        changes = after_read_all (Unchanged d) d (λ c h. refl) head number (λ c h. refl);
+        changes = unchanged_read d head number;
       }
 
   -- a write attempt at its cylinder
-  abbrev written_event : WriteJob → ℕ → Event
-  written_event j c =
-      sector_written (record { track = record { bay = bay; cylinder = c; head = head }; number = s.registers.number; size = size_at s.registers.sdh }) (mode_at s.registers.sdh) (not j.mode.long)
-
-  write_changes : (j : WriteJob) → d.cylinder ≡ goal → (a : Writing) (e : DriveModel) → attempt.Wrote d head s.registers.number (size_at s.registers.sdh) s.buffer a e
-      → Changes bay d e s.buffer (cond (is_written a) (written_event j goal) nothing)
-  write_changes j there a e (attempt.replaced k slot done is) =
-      subst (λ x. Changes bay d e s.buffer (cond x (written_event j goal) nothing)) (sym done)
-      (subst (λ z. Changes bay d z s.buffer (written_event j goal)) (sym is)
-      (subst (λ c. Changes bay d (written (attempted_at d head s.registers.number) head (size_at s.registers.sdh) s.buffer k) s.buffer (written_event j c)) there
-      (refl, (k, (slot, λ c h. refl)))))
-  write_changes j there a e (attempt.kept no-done (inl is)) =
-      subst (λ x. Changes bay d e s.buffer (cond x (written_event j goal) nothing)) (sym no-done) (λ c h. ap (λ (z : DriveModel). z.track c h) is)
-  write_changes j there a e (attempt.kept no-done (inr is)) =
-      subst (λ x. Changes bay d e s.buffer (cond x (written_event j goal) nothing)) (sym no-done) (λ c h. ap (λ (z : DriveModel). z.track c h) is)
+  write_changes : (j : WriteJob) → d.cylinder ≡ goal → (a : Result (Unit {0}) WriteError) (e : DriveModel) → attempt.Wrote d head s.registers.number (size_at s.registers.sdh) s.buffer a e
+      → Changes bay d e s.buffer (cond (is_ok a) (written_event bay head s j) nothing)
+  write_changes j there a e (attempt.replaced k slot done is) = rw (done, is, ← there) (refl, (k, (slot, λ c h. refl)))
+  write_changes j there a e (attempt.kept not_done is) = rw not_done (λ c h. grind arith)
 
   write_result : (j : WriteJob) → s.phase ≡ Busy (Write j) → Kept taken o s → R (write_event_by (eqb d.cylinder goal) bay head s j d) (once_there s d (write_act s j head d))
-  write_result j e k = go (eqb d.cylinder goal) refl
+  write_result j e k = by_place (eqb d.cylinder goal) refl
     where
       again : Kept taken o (with_phase s (Busy (Write j)))
       again = record { buffered = k.buffered; fits = subst (λ p. TakenFits p s.registers s.buffer taken) e k.fits; agrees = subst (λ p. Agrees p o) e k.agrees }
 
-      go : (there : Bool) → eqb d.cylinder goal ≡ there → R (write_event_by there bay head s j d) (cond there (write_act s j head d) (turned s (nearer d goal)))
-      go false is = step_result (Write j) e k
-      go true is =
+      by_place : (there : Bool) → eqb d.cylinder goal ≡ there → R (write_event_by there bay head s j d) (cond there (write_act s j head d) (turned s (nearer d goal)))
+      by_place false is = step_result (Write j) e k
+      by_place true is =
           record {
             sound = sound_write d head s.registers.number (size_at s.registers.sdh) s.buffer k.buffered sound;
             kept = write_kept taken o s j again (write_answer d head s.registers.number (size_at s.registers.sdh)) head;
@@ -147,28 +145,17 @@ module _ (bay : Bay) (taken : List ℕ) (o : Option Command) (head : ℕ) (s : S
           }
 
   -- a format at its cylinder
-  abbrev formatted_event : ℕ → Event
-  formatted_event c = track_formatted (record { bay = bay; cylinder = c; head = head }) (ids_asked s) (size_at s.registers.sdh) (mode_at s.registers.sdh)
-
-  abbrev zeros_check : List ℕ
-  zeros_check = zero_check (mode_at s.registers.sdh) (size_at s.registers.sdh)
-
-  format_changes : d.cylinder ≡ goal → (done : Bool) (e : DriveModel) → attempt.Formats d head (ids_asked s) (size_at s.registers.sdh) zeros_check done e
-      → Changes bay d e s.buffer (cond done (formatted_event goal) nothing)
-  format_changes there done e (attempt.laid is_done is) =
-      subst (λ x. Changes bay d e s.buffer (cond x (formatted_event goal) nothing)) (sym is_done)
-      (subst (λ z. Changes bay d z s.buffer (formatted_event goal)) (sym is)
-      (subst (λ c. Changes bay d (with_track d head (blank_track (ids_asked s) (size_at s.registers.sdh) zeros_check) (track head (ids_asked s) (size_at s.registers.sdh) zeros_check)) s.buffer (formatted_event c)) there
-      (refl, λ c h. refl)))
-  format_changes there done e (attempt.refused no-done is) =
-      subst (λ x. Changes bay d e s.buffer (cond x (formatted_event goal) nothing)) (sym no-done) (λ c h. ap (λ (z : DriveModel). z.track c h) is)
+  format_changes : d.cylinder ≡ goal → (done : Bool) (e : DriveModel) → attempt.Formats d head (ids_asked s) (size_at s.registers.sdh) (zero_check (mode_at s.registers.sdh) (size_at s.registers.sdh)) done e
+      → Changes bay d e s.buffer (cond done (formatted_event bay head s) nothing)
+  format_changes there done e (attempt.laid is_done is) = rw (is_done, is, ← there) (refl, λ c h. refl)
+  format_changes there done e (attempt.refused not_done is) = rw not_done (λ c h. grind arith)
 
   format_result : s.phase ≡ Busy Format → Kept taken o s → R (format_event_by (eqb d.cylinder goal) bay head s d) (once_there s d (format_act s head d))
-  format_result e k = go (eqb d.cylinder goal) refl
+  format_result e k = by_place (eqb d.cylinder goal) refl
     where
-      go : (there : Bool) → eqb d.cylinder goal ≡ there → R (format_event_by there bay head s d) (cond there (format_act s head d) (turned s (nearer d goal)))
-      go false is = step_result Format e k
-      go true is =
+      by_place : (there : Bool) → eqb d.cylinder goal ≡ there → R (format_event_by there bay head s d) (cond there (format_act s head d) (turned s (nearer d goal)))
+      by_place false is = step_result Format e k
+      by_place true is =
           let size = size_at s.registers.sdh in
           let check = zero_check (mode_at s.registers.sdh) size in
           record {
@@ -177,12 +164,12 @@ module _ (bay : Bay) (taken : List ℕ) (o : Option Command) (head : ℕ) (s : S
             changes = format_changes (eqb-true d.cylinder goal is) _ _ (attempt.formats d head (ids_asked s) size check);
           }
 
-  pub turned_result : (j : Job) → s.phase ≡ Busy j → Kept taken o s → Result bay taken o s d (job_event bay head s d j) (worked j s head d)
+  pub turned_result : (j : Job) → s.phase ≡ Busy j → Kept taken o s → Leaves bay taken o s d (job_event bay head s d j) (worked j s head d)
   unfolding worked
   turned_result Test e k = ended_result k.buffered
   turned_result (Restore steps) e k = restore_result steps e k
   turned_result Seek e k = cond_both (eqb d.cylinder goal) _ _ (R nothing) (λ _. ended_result k.buffered) (λ _. step_result Seek e k)
   turned_result (Read j) e k =
-      cond_both (eqb d.cylinder goal) _ _ (R nothing) (λ _. read_result j (subst (λ p. Agrees p o) e k.agrees) k.buffered) (λ _. step_result (Read j) e k)
+      cond_both (eqb d.cylinder goal) _ _ (R nothing) (λ _. read_result j (rw e at k.agrees) k.buffered) (λ _. step_result (Read j) e k)
   turned_result (Write j) e k = write_result j e k
   turned_result Format e k = format_result e k

@@ -1,16 +1,14 @@
 -- What a call does that a host, or a reader of the disks, can tell.
-use Rattle.std.specs.Prelude.{ℕ, Bool, true, false, cond, not, ◌&&◌, ◌||◌, List, is_some, ◌==◌}
+use Rattle.std.specs.Prelude.{ℕ, Bool, true, false, cond, not, ◌&&◌, ◌||◌, List, is_some, Some, None, Ok, Err, Option, is_ok, ◌==◌}
 use Rattle.sector.specs.declared.size.SizeCode.{SizeCode}
 use Rattle.sector.specs.Sizes.{number_of}
 use Rattle.check_code.specs.declared.mode.CheckMode.{CheckMode}
 use Rattle.drive.specs.declared.answers.SectorId.{SectorId}
-use Rattle.drive.specs.declared.answers.Writing.{Writing}
-use Rattle.drive.specs.declared.answers.Writing.TheVariants as writing
 use Rattle.drive.specs.Model.{DriveModel}
-use Rattle.drive.specs.Calls.{write_answer, format_answer, is_formatted}
+use Rattle.drive.specs.Calls.{write_answer, format_answer}
 use Rattle.task_file.specs.declared.registers.Registers.{Registers}
 use Rattle.task_file.specs.declared.registers.Selection.{Selection}
-use Rattle.task_file.specs.declared.registers.Selection.TheVariants.{Winchester, Floppy, NoDrive}
+use Rattle.task_file.specs.declared.registers.Selection.TheVariants.{Winchester, Floppy}
 use Rattle.task_file.specs.declared.state.WriteJob.{WriteJob}
 use Rattle.task_file.specs.declared.state.Job.TheVariants.{Test, Restore, Seek, Read, Write, Format}
 use Rattle.task_file.specs.declared.state.Phase.{Phase}
@@ -21,9 +19,7 @@ use Rattle.controller.specs.Turns.{ids_asked}
 use Rattle.controller.specs.Model.{ControllerModel}
 use Rattle.histories.specs.declared.call.Call.{Call}
 use Rattle.histories.specs.declared.call.Call.TheVariants as call
-use Rattle.histories.specs.declared.call.Answer.{Answer}
-use Rattle.histories.specs.declared.call.Answer.TheVariants.{Byte, Done, Refused}
-use Rattle.histories.specs.Runs.{answer_to, called}
+use Rattle.histories.specs.Runs.{Answer, answer_to, called}
 
 -- ---- lines and commands
 -- BUSY, DRQ and Error, as the host sees them
@@ -37,9 +33,9 @@ abbrev pub error : ControllerModel → Bool
 error b = is_some b.state.failure
 
 abbrev pub is_done : Answer → Bool
-is_done (Byte x) = false
-is_done Done = true
-is_done (Refused why) = false
+is_done (Ok None) = true
+is_done (Ok (Some byte)) = false
+is_done (Err why) = false
 
 -- the call is an accepted command
 abbrev pub accepts : ControllerModel → Call → Bool
@@ -109,19 +105,12 @@ pub data Event : Type 0 where
   -- the track, and its new sectors' IDs, size code and check mode
   track_formatted : TrackName → List SectorId → SizeCode → CheckMode → Event
 
-abbrev pub is_written : Writing → Bool
-is_written writing.NotReady = false
-is_written writing.Protected = false
-is_written writing.NoId = false
-is_written writing.BadBlock = false
-is_written writing.Written = true
-
 -- a write attempt is made on the turn that finds the cylinder, and replaces the sector where the drive answers so
 abbrev pub write_event : WriteJob → Bay → ℕ → ControllerModel → Event
 write_event j bay head b =
     let r = b.state.registers in
     cond
-    ((drive_in bay b).cylinder == cylinder_of r && is_written (write_answer (drive_in bay b) head r.number (size_at r.sdh)))
+    ((drive_in bay b).cylinder == cylinder_of r && is_ok (write_answer (drive_in bay b) head r.number (size_at r.sdh)))
     (sector_written (sector_named bay head r) (mode_at r.sdh) (not j.mode.long))
     nothing
 
@@ -130,7 +119,7 @@ abbrev pub format_event : Bay → ℕ → ControllerModel → Event
 format_event bay head b =
     let r = b.state.registers in
     cond
-    ((drive_in bay b).cylinder == cylinder_of r && is_formatted (format_answer (drive_in bay b) head (ids_asked b.state) (size_at r.sdh)))
+    ((drive_in bay b).cylinder == cylinder_of r && is_ok (format_answer (drive_in bay b) head (ids_asked b.state) (size_at r.sdh)))
     (track_formatted (track_named bay head r) (ids_asked b.state) (size_at r.sdh) (mode_at r.sdh))
     nothing
 
@@ -145,10 +134,10 @@ turn_event_on (Busy Format) bay head b = format_event bay head b
 turn_event_on (Offering m at) bay head b = nothing
 turn_event_on (Taking l at) bay head b = nothing
 
-abbrev pub turn_event : Selection → ControllerModel → Event
-turn_event (Winchester head) b = turn_event_on b.state.phase winchester head b
-turn_event (Floppy head) b = turn_event_on b.state.phase floppy head b
-turn_event NoDrive b = nothing
+abbrev pub turn_event : Option Selection → ControllerModel → Event
+turn_event (Some (Winchester head)) b = turn_event_on b.state.phase winchester head b
+turn_event (Some (Floppy head)) b = turn_event_on b.state.phase floppy head b
+turn_event None b = nothing
 
 -- what a call does to the disks: only a turn does anything
 unfoldable pub event_of : ControllerModel → Call → Event

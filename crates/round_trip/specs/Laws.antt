@@ -1,5 +1,5 @@
 -- The script read stays the sheet written: the laws over whole histories.
-use Rattle.std.specs.Prelude.{◌≡◌, ℕ, suc, ◌+◌, ◌*◌, ◌<◌, ◌≤◌, Bool, true, false, cond, ◌&&◌, ◌⊎◌, List, [], ◌∷◌, ◌++◌, length, get_or, Some, None, Option, ◌==◌, ◌≢◌, slice_index, slice_index_or}
+use Rattle.std.specs.Prelude.{◌≡◌, ℕ, suc, ◌+◌, ◌*◌, ◌<◌, ◌≤◌, Bool, true, false, cond, ◌&&◌, ◌⊎◌, List, [], ◌∷◌, ◌++◌, length, get_or, Some, None, Ok, Err, Option, ◌==◌, ◌≢◌, slice_index, slice_index_or}
 use Rattle.sector.specs.Sizes.{bytes_of}
 use Rattle.sector.specs.Bits.{OneBurst}
 use Rattle.check_code.specs.declared.mode.CheckMode.{CheckMode}
@@ -10,16 +10,14 @@ use Rattle.burst.specs.Mending.{AtMostOneBurst}
 use Rattle.drive.specs.Model.{Sector, no_sector, slot_of, Showing, no_id, no_data_mark, wrong_bits, DriveModel}
 use Rattle.drive.specs.Bounds.{Bounded}
 use Rattle.task_file.specs.declared.registers.Selection.{Selection}
-use Rattle.task_file.specs.declared.registers.Selection.TheVariants.{Winchester, Floppy, NoDrive}
+use Rattle.task_file.specs.declared.registers.Selection.TheVariants.{Winchester, Floppy}
 use Rattle.task_file.specs.declared.command.Command.TheVariants.{Read}
 use Rattle.task_file.specs.declared.command.ReadMode.{ReadMode}
 use Rattle.task_file.specs.Registers.{mode_at, selected}
 use Rattle.controller.specs.Model.{ControllerModel}
 use Rattle.histories.specs.declared.call.Call.{Call}
 use Rattle.histories.specs.declared.call.Call.TheVariants as call
-use Rattle.histories.specs.declared.call.Answer.{Answer}
-use Rattle.histories.specs.declared.call.Answer.TheVariants.{Byte, Done, Refused}
-use Rattle.histories.specs.Runs.{answer_to, called, runs, at}
+use Rattle.histories.specs.Runs.{Answer, byte_read, answer_to, called, runs, at}
 use Rattle.round_trip.specs.Events.{busy, drq, error, accepts, drq_comes_on, busy_comes_on, winchester, floppy, drive_in, TrackName, SectorName, same_track, sector_named, Event, nothing, sector_written, track_formatted, event_of}
 use Rattle.round_trip.specs.Ledger.{Writing, Notes, notes_of}
 
@@ -54,10 +52,10 @@ outlook_at b name = (drive_in name.track.bay b).outlook name.track.cylinder name
 
 -- ---- a read
 -- the sector that the registers name on the selected drive
-abbrev pub named_by : Selection → ControllerModel → Option SectorName
-named_by (Winchester head) b = Some (sector_named winchester head b.state.registers)
-named_by (Floppy head) b = Some (sector_named floppy head b.state.registers)
-named_by NoDrive b = None
+abbrev pub named_by : Option Selection → ControllerModel → Option SectorName
+named_by (Some (Winchester head)) b = Some (sector_named winchester head b.state.registers)
+named_by (Some (Floppy head)) b = Some (sector_named floppy head b.state.registers)
+named_by None b = None
 
 abbrev pub sector_now : ControllerModel → Option SectorName
 sector_now b = named_by (selected b.state.registers.sdh) b
@@ -100,9 +98,9 @@ DrqThroughout b [] = drq b ≡ true
 DrqThroughout b (c ∷ cs) = (drq b ≡ true) × (accepts b c ≡ false) × DrqThroughout (called b c) cs
 
 abbrev pub is_byte : Answer → Bool
-is_byte (Byte x) = true
-is_byte Done = false
-is_byte (Refused why) = false
+is_byte (Ok (Some byte)) = true
+is_byte (Ok None) = false
+is_byte (Err why) = false
 
 -- a data read that is answered draws a byte
 abbrev pub draws : ControllerModel → Call → ℕ
@@ -145,7 +143,7 @@ SameBytes w f =
     → drq_comes_on (runs b waiting) call.Turn ≡ true
     → DrqThroughout offered drawing
     → error (runs offered drawing) ≡ false
-    → answer_to (runs offered drawing) (call.Read 0) ≡ Byte (slice_index x.bytes (drawn_in offered drawing))
+    → answer_to (runs offered drawing) (call.Read 0) ≡ byte_read (slice_index x.bytes (drawn_in offered drawing))
 
 -- Clean exactly when it can be. A plain single-sector read that is accepted and not aborted raises DRQ by the 1,032nd
 -- turn, unless a reset comes first; Error is then off exactly when its sector stands unmarked and is readable.

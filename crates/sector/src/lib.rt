@@ -6,5 +6,5 @@
 mod size;
 mod wrong_bits;
 
-pub use size::SizeCode;
+pub use size::{NoSuchSize, SizeCode};
 pub use wrong_bits::{Burst, invert_burst};

@@ -1,31 +1,52 @@
 // The four sector sizes and the codes that name them.
 ghost use Rattle.std.specs.Prelude.{◌≡◌};
+ghost use Rattle.std.specs.Result.{result_ok};
 ghost use Rattle.sector.specs.Sizes.{bytes_of, number_of, size_with, size_numbered};
+
+use thiserror::Error;
 
 // A size code, by the bytes that a sector of it has.
 #[derive(Clone, Copy, PartialEq, Eq, Debug)]
 pub enum SizeCode {
-    Bytes256,
-    Bytes512,
-    Bytes1024,
-    Bytes128,
+    Bytes256 = 0,
+    Bytes512 = 1,
+    Bytes1024 = 2,
+    Bytes128 = 3,
+}
+
+// A number that names no size.
+#[derive(Clone, Copy, PartialEq, Eq, Debug, Error)]
+#[error("no sector size has this code")]
+pub struct NoSuchSize;
+
+impl TryFrom<u8> for SizeCode {
+    type Error = NoSuchSize;
+
+    // The size that the number names, if it is one of the four.
+    ghost try_from_gives = { λ number r. result_ok r ≡ size_numbered number };
+
+    fn try_from(number: u8) -> Result<SizeCode, NoSuchSize> {
+        match number {
+            0 => Ok(SizeCode::Bytes256),
+            1 => Ok(SizeCode::Bytes512),
+            2 => Ok(SizeCode::Bytes1024),
+            3 => Ok(SizeCode::Bytes128),
+            _ => Err(NoSuchSize),
+        }
+    }
+}
+
+impl From<SizeCode> for u8 {
+    ghost from_gives = { λ size number. number ≡ number_of size };
+
+    fn from(size: SizeCode) -> u8 {
+        size as u8
+    }
 }
 
 impl SizeCode {
-    // The size that a code names, if it is one of the four.
-    pub fn from_number(number: u8) -> Option<SizeCode>
-        ensures { result ≡ size_numbered number }
-    {
-        match number {
-            0 => Some(SizeCode::Bytes256),
-            1 => Some(SizeCode::Bytes512),
-            2 => Some(SizeCode::Bytes1024),
-            3 => Some(SizeCode::Bytes128),
-            _ => None,
-        }
-    }
-
-    // The size of a sector that has so many bytes, if sectors come in it.
+    // The size of a sector that has so many bytes, if sectors come in it. A conversion from a length would look like the one
+    // from a number, and differ only in the integer's width; so this has a name.
     pub fn from_length(length: usize) -> Option<SizeCode>
         ensures { result ≡ size_with length }
     {
@@ -35,18 +56,6 @@ impl SizeCode {
             1024 => Some(SizeCode::Bytes1024),
             128 => Some(SizeCode::Bytes128),
             _ => None,
-        }
-    }
-
-    // The number of this code.
-    pub fn number(self) -> u8
-        ensures { result ≡ number_of self }
-    {
-        match self {
-            SizeCode::Bytes256 => 0,
-            SizeCode::Bytes512 => 1,
-            SizeCode::Bytes1024 => 2,
-            SizeCode::Bytes128 => 3,
         }
     }
 

@@ -2,11 +2,20 @@
 ghost use Rattle.std.specs.Prelude.{◌≡◌, ◌+◌, nat_eq};
 ghost use Rattle.sector.specs.Bits.{inverted, marked, from_bit};
 
+use std::fmt;
+
 // A burst by its first bit, counted from the top bit of the sector's first byte, and a pattern whose bit i marks bit first + i.
 #[derive(Clone, Copy, PartialEq, Eq, Debug)]
 pub struct Burst {
     pub first: u16,
     pub pattern: u8,
+}
+
+impl fmt::Display for Burst {
+    fn fmt<W: fmt::Write>(&self, f: &mut fmt::Formatter<W>) -> fmt::Result {
+        let Burst { first, pattern } = self;
+        write!(f, "burst at bit {first:>4}, pattern {pattern:05b}")
+    }
 }
 
 // Inverts one bit of the sector, where it lies in `part`, the sector's bytes from bit `start` on.

@@ -1,25 +1,23 @@
--- One more entry of a format's sectors.
-use Rattle.std.proofs.Common.{◌≡◌, ℕ, ◌+◌, ◌<◌, ◌≤◌, List, [], ◌∷◌, ◌++◌, length, take, set, sym, ap, ◌∙◌, subst, ap₂, inl, inr, add-one, arith, length-set, get_or-set_same}
-use Rattle.std.proofs.lemmas.List.{take_more, take-set-le, take-set}
-use Rattle.std.proofs.lemmas.Bool.{cases_order}
+-- The sectors of a format, made one after another by a function of the pair's number.
+use Rattle.std.proofs.Common.{◌≡◌, ℕ, zero, suc, ◌+◌, ◌≤◌, List, [], ◌∷◌, ◌++◌, length, take, sym, ap, ap₂, ◌∙◌, subst, ⊎_elim, add-one, arith}
+use Rattle.std.proofs.lemmas.List.{take_more}
+use Rattle.std.proofs.lemmas.Bool.{cases_lt}
+use Rattle.std.specs.Array.{IsFromFnResultFrom}
+use denote.Param.Members.{Mut, Called}
 use Rattle.drive.specs.declared.answers.SectorId.{SectorId}
 use Rattle.task_file.specs.Attempts.{id_at, ids_of}
 
-module _ (bytes : List ℕ) (ids : List SectorId) (i : ℕ) (here : i < length ids) (before : (n : ℕ) → n ≤ i → take n ids ≡ ids_of bytes n) where
-  last : take (i + 1) (set ids i (id_at bytes i)) ≡ ids_of bytes (i + 1)
-  last =
-      let x = id_at bytes i in
-      let lt : i < length (set ids i x) = rw length-set here in
-      take_more (set ids i x) i x lt
-      ∙ ap₂ (λ (xs : List SectorId) (y : SectorId). xs ++ (y ∷ [])) (take-set ids i x ∙ before i (omega arith)) (get_or-set_same ids i x x here)
-      ∙ ap (ids_of bytes) (sym (add-one i))
-
-  pub ids_more : (n : ℕ) → n ≤ i + 1 → take n (set ids i (id_at bytes i)) ≡ ids_of bytes n
-  ids_more n le =
-      elim (cases_order n (i + 1)) [
-        | inl e ↦ subst (λ m. take m (set ids i (id_at bytes i)) ≡ ids_of bytes m) (sym e) last
-        | inr o ↦ elim o [
-          | inl lt ↦ take-set-le n ids i (id_at bytes i) (omega arith) ∙ before n (omega arith)
-          | inr gt ↦ absurd (omega arith)
-        ]
-      ]
+module _ {F : Type 0} (g : Mut F (ℕ × Unit {0}) SectorId) (bytes : List ℕ) (f : F)
+    (gives : (i : ℕ) (id : SectorId) (f' : F) → Called g f (i, tt) id f' → (id ≡ id_at bytes i) × (f' ≡ f)) (ids : List SectorId) where
+  pub ids_made : (n i : ℕ) → IsFromFnResultFrom g f ids i n → i + n ≤ length ids → take i ids ≡ ids_of bytes i
+      → (m : ℕ) → i ≤ m → m ≤ i + n → take m ids ≡ ids_of bytes m
+  ids_made zero i made long before m lo hi = let e : i ≡ m = omega arith in subst (λ k. take k ids ≡ ids_of bytes k) e before
+  ids_made (suc n) i (q, id, here, call, rest) long before m lo hi =
+      let e = gives i id q call in
+      let last : take (i + 1) ids ≡ ids_of bytes (i + 1) =
+      take_more ids i id (omega arith) ∙ ap₂ (λ (xs : List SectorId) (x : SectorId). xs ++ (x ∷ [])) before (here.1 id ∙ e.0)
+      ∙ ap (ids_of bytes) (sym (add-one i)) in
+      ⊎_elim
+      (λ l. ids_made n (i + 1) (subst (λ x. IsFromFnResultFrom g x ids (i + 1) n) e.1 rest) (omega arith) last m (omega arith) (omega arith))
+      (λ l. let s : i ≡ m = omega arith in subst (λ k. take k ids ≡ ids_of bytes k) s before)
+      (cases_lt i m)

@@ -1,5 +1,6 @@
 -- The commands that are aborted, by what is seen of the selected drive.
-use Rattle.std.specs.Prelude.{◌*◌, Bool, true, false, not, ◌&&◌, ◌||◌, nat_le, nat_lt}
+use Rattle.std.specs.Prelude.{◌*◌, Bool, true, false, not, ◌&&◌, ◌||◌, Option, nat_le, nat_lt}
+use Rattle.std.specs.Option.{option_map_or}
 use Rattle.sector.specs.Sizes.{bytes_of}
 use Rattle.check_code.specs.declared.mode.CheckMode.{CheckMode}
 use Rattle.check_code.specs.declared.mode.CheckMode.TheVariants.{Crc, Ecc}
@@ -10,11 +11,7 @@ use Rattle.task_file.specs.declared.view.DriveView.{DriveView}
 use Rattle.task_file.specs.Registers.{cylinder_of, size_at, mode_at, sector_count}
 use Rattle.task_file.specs.Commands.{writes, is_long}
 
--- what is seen where no drive is selected: nothing that is ready
-abbrev pub no_drive : DriveView
-no_drive = record { floppy = false; head = 0; ready = false; protected = false; cylinders = 0; heads = 0; capacity = 0 }
-
--- no ready drive is selected, or a protected Winchester
+-- a drive that is not ready, or a protected Winchester
 abbrev pub is_unusable : DriveView → Bool
 is_unusable v = not v.ready || (v.protected && not v.floppy)
 
@@ -34,15 +31,19 @@ guards c v = writes c && (v.floppy && v.protected)
 abbrev pub refuses_format : Registers → DriveView → Bool
 refuses_format r v = nat_le v.heads v.head || (nat_lt 64 (sector_count r) || nat_lt v.capacity (sector_count r * bytes_of (size_at r.sdh)))
 
--- what can stand against any command but Test; the cylinder has to be below the drive's cylinders
+-- what of the selected drive can stand against any command but Test; the cylinder has to be below the drive's cylinders
 abbrev pub is_hindered : Command → Registers → DriveView → Bool
 is_hindered c r v = is_unusable v || (unfit_for_floppy c (mode_at r.sdh) v || (nat_le v.cylinders (cylinder_of r) || guards c v))
 
--- whether a command is aborted
-unfoldable pub aborts : Command → Registers → DriveView → Bool
+-- whether a command is aborted: where no drive is selected, each but Test is
+unfoldable pub aborts : Command → Registers → Option DriveView → Bool
 aborts Test r v = false
-aborts Restore r v = is_hindered Restore r v
-aborts Seek r v = is_hindered Seek r v
-aborts (Read m) r v = is_hindered (Read m) r v
-aborts (Write m) r v = is_hindered (Write m) r v
-aborts Format r v = is_hindered Format r v || refuses_format r v
+aborts Restore r v = option_map_or (is_hindered Restore r) v true
+aborts Seek r v = option_map_or (is_hindered Seek r) v true
+aborts (Read m) r v = option_map_or (is_hindered (Read m) r) v true
+aborts (Write m) r v = option_map_or (is_hindered (Write m) r) v true
+aborts Format r v = option_map_or (λ d. is_hindered Format r d || refuses_format r d) v true
+
+-- whether the protection note is set with an aborted command
+abbrev pub notes : Command → Option DriveView → Bool
+notes c v = option_map_or (guards c) v false

@@ -1,5 +1,5 @@
 -- What comes of an attempt at a sector, and of a format.
-use Rattle.std.specs.Prelude.{ℕ, zero, suc, ◌+◌, ◌*◌, min, Bool, true, false, cond, not, ◌&&◌, ◌||◌, List, [], ◌∷◌, ◌++◌, take, drop, replicate, Some, None, Option, ◌==◌, nat_le, nat_lt, slice_index}
+use Rattle.std.specs.Prelude.{ℕ, zero, suc, ◌+◌, ◌*◌, min, Bool, true, false, cond, not, ◌&&◌, ◌||◌, List, [], ◌∷◌, ◌++◌, take, drop, replicate, Some, None, Option, Ok, Err, Result, ◌==◌, nat_le, nat_lt, slice_index}
 use Rattle.sector.specs.declared.size.SizeCode.{SizeCode}
 use Rattle.sector.specs.declared.wrong_bits.Burst.{Burst}
 use Rattle.sector.specs.Sizes.{bytes_of}
@@ -10,13 +10,14 @@ use Rattle.check_code.specs.Mode.{code_of}
 use Rattle.burst.specs.Search.{set_of, first_burst}
 use Rattle.drive.specs.declared.buffer.SectorBuffer.{SectorBuffer}
 use Rattle.drive.specs.declared.place.Place.{Place}
+use Rattle.drive.specs.declared.place.SectorAddress.{SectorAddress}
 use Rattle.drive.specs.declared.answers.SectorId.{SectorId}
-use Rattle.drive.specs.declared.answers.Reading.{Reading}
-use Rattle.drive.specs.declared.answers.Reading.TheVariants as reading
-use Rattle.drive.specs.declared.answers.Writing.{Writing}
-use Rattle.drive.specs.declared.answers.Writing.TheVariants as writing
-use Rattle.drive.specs.declared.answers.Formatting.{Formatting}
-use Rattle.drive.specs.declared.answers.Formatting.TheVariants as formatting
+use Rattle.drive.specs.declared.answers.ReadError.{ReadError}
+use Rattle.drive.specs.declared.answers.ReadError.TheVariants as read_error
+use Rattle.drive.specs.declared.answers.WriteError.{WriteError}
+use Rattle.drive.specs.declared.answers.WriteError.TheVariants as write_error
+use Rattle.drive.specs.declared.answers.FormatError.{FormatError}
+use Rattle.drive.specs.Calls.{blank_buffer}
 use Rattle.task_file.specs.declared.registers.Registers.{Registers}
 use Rattle.task_file.specs.declared.command.ReadMode.{ReadMode}
 use Rattle.task_file.specs.declared.command.WriteMode.{WriteMode}
@@ -30,13 +31,11 @@ use Rattle.task_file.specs.declared.state.Job.TheVariants as job
 use Rattle.task_file.specs.declared.state.Load.TheVariants.{Sector}
 use Rattle.task_file.specs.declared.state.Phase.TheVariants.{Busy, Offering, Taking}
 use Rattle.task_file.specs.declared.state.State.{State}
-use Rattle.task_file.specs.declared.attempts.Outcome.{Outcome}
-use Rattle.task_file.specs.declared.attempts.Outcome.TheVariants.{NotReady, NoId, BadBlock, NoDataMark, Unjudged, Difference}
 use Rattle.task_file.specs.declared.attempts.Verdict.{Verdict}
 use Rattle.task_file.specs.declared.attempts.Verdict.TheVariants.{Take, Correct, Retry, Fail, Abort}
 use Rattle.task_file.specs.Registers.{cylinder_of, size_at, mode_at, next_sector, at_count_0}
 use Rattle.task_file.specs.Aborting.{is_ecc}
-use Rattle.task_file.specs.State.{with_registers, with_failure, with_intrq, with_phase, with_buffer, with_corrected, blank_buffer, ended, failed}
+use Rattle.task_file.specs.State.{with_registers, with_failure, with_intrq, with_phase, with_buffer, with_corrected, ended, failed}
 
 -- ---- failures
 -- the attempts made at a sector, with one more; they are never more than nine
@@ -47,19 +46,21 @@ attempts_with attempts = min attempts 8 + 1
 abbrev pub place_under : Registers → ℕ → Place
 place_under r head = record { cylinder = cylinder_of r; head = head; number = r.number }
 
+-- the sector that they name there
+abbrev pub address_under : Registers → ℕ → SectorAddress
+address_under r head = record { head = head; number = r.number; size = size_at r.sdh }
+
 -- a failure at the sector that the registers name, after so many attempts and one more
 abbrev pub sector_failure : Registers → ℕ → ℕ → SectorError → Failure
 sector_failure r head attempts e = failure.Sector (record { error = e; place = place_under r head; attempts = attempts_with attempts })
 
 -- ---- judging a read attempt
--- what an attempt showed, by its answer and what it left in the buffer: with L = 1 a delivery is not judged
-abbrev pub outcome_of : Reading → Bool → CheckMode → SizeCode → SectorBuffer → Outcome
-outcome_of reading.NotReady long mode size b = NotReady
-outcome_of reading.NoId long mode size b = NoId
-outcome_of reading.BadBlock long mode size b = BadBlock
-outcome_of reading.NoDataMark long mode size b = NoDataMark
-outcome_of reading.Delivered long mode size b =
-    cond long Unjudged (Difference (difference_of (code_of mode) (take (bytes_of size) b.bytes) b.check))
+-- What an attempt showed, by its answer and what it left in the buffer: an error, or the difference of what was delivered.
+-- With L = 1 a delivery is not judged, and shows no difference.
+abbrev pub outcome_of : Result (Unit {0}) ReadError → Bool → CheckMode → SizeCode → SectorBuffer → Result (Option ℕ) ReadError
+outcome_of (Err e) long mode size b = Err e
+outcome_of (Ok _) long mode size b =
+    Ok (cond long None (Some (difference_of (code_of mode) (take (bytes_of size) b.bytes) b.check)))
 
 -- the attempt just before had this difference
 abbrev pub seen_before : Option ℕ → ℕ → Bool
@@ -72,13 +73,13 @@ retried attempts previous e = cond (nat_lt attempts 8) (Retry previous) (Fail e)
 
 -- What is done about an attempt, by the attempts made before it and the difference of the one just before.
 -- Bad block fails at once; a drive that is not ready, which no run meets here, aborts. Under ECC a nonzero difference equal to the one just before is corrected.
-abbrev pub verdict_of : CheckMode → ℕ → Option ℕ → Outcome → Verdict
-verdict_of mode attempts previous NotReady = Abort
-verdict_of mode attempts previous NoId = retried attempts None error.IdNotFound
-verdict_of mode attempts previous BadBlock = Fail error.BadBlock
-verdict_of mode attempts previous NoDataMark = retried attempts None error.NoDataMark
-verdict_of mode attempts previous Unjudged = Take
-verdict_of mode attempts previous (Difference d) =
+abbrev pub verdict_of : CheckMode → ℕ → Option ℕ → Result (Option ℕ) ReadError → Verdict
+verdict_of mode attempts previous (Err read_error.NotReady) = Abort
+verdict_of mode attempts previous (Err read_error.NoId) = retried attempts None error.IdNotFound
+verdict_of mode attempts previous (Err read_error.BadBlock) = Fail error.BadBlock
+verdict_of mode attempts previous (Err read_error.NoDataMark) = retried attempts None error.NoDataMark
+verdict_of mode attempts previous (Ok None) = Take
+verdict_of mode attempts previous (Ok (Some d)) =
     cond (d == 0) Take (cond (is_ecc mode && seen_before previous d) (Correct d) (retried attempts (Some d) error.Data))
 
 -- ---- what a read attempt leads to
@@ -117,7 +118,7 @@ read_by (Fail e) s j head = read_failed s j.mode (sector_failure s.registers hea
 read_by Abort s j head = failed s failure.Aborted
 
 -- what an attempt's answer leads to, with what it delivered in the buffer
-unfoldable pub read_judged : Reading → State → ReadJob → ℕ → State
+unfoldable pub read_judged : Result (Unit {0}) ReadError → State → ReadJob → ℕ → State
 read_judged a s j head =
     read_by
     (verdict_of (mode_at s.registers.sdh) j.attempts j.previous
@@ -133,15 +134,15 @@ sector_written s m =
     (ended s)
 
 -- what an attempt's answer leads to; that the drive refuses is met in no run
-abbrev pub write_judged : Writing → State → WriteJob → ℕ → State
-write_judged writing.NotReady s j head = failed s failure.Aborted
-write_judged writing.Protected s j head = failed s failure.Aborted
-write_judged writing.NoId s j head =
+abbrev pub write_judged : Result (Unit {0}) WriteError → State → WriteJob → ℕ → State
+write_judged (Ok _) s j head = sector_written s j.mode
+write_judged (Err write_error.NotReady) s j head = failed s failure.Aborted
+write_judged (Err write_error.Protected) s j head = failed s failure.Aborted
+write_judged (Err write_error.NoId) s j head =
     cond (nat_lt j.attempts 8)
     (with_phase s (Busy (job.Write (record { mode = j.mode; attempts = attempts_with j.attempts }))))
     (failed s (sector_failure s.registers head j.attempts error.IdNotFound))
-write_judged writing.BadBlock s j head = failed s (sector_failure s.registers head j.attempts error.BadBlock)
-write_judged writing.Written s j head = sector_written s j.mode
+write_judged (Err write_error.BadBlock) s j head = failed s (sector_failure s.registers head j.attempts error.BadBlock)
 
 -- ---- formats
 -- the sector that pair i of a format's bytes gives: bit 7 of the first byte is the bad mark, the second is the number
@@ -158,10 +159,6 @@ abbrev pub zero_check : CheckMode → SizeCode → List ℕ
 zero_check mode size = check_bytes_of (code_of mode) (replicate (bytes_of size) 0)
 
 -- a done format ends with count 0; that the drive refuses is met in no run
-abbrev pub format_judged : Formatting → State → State
-format_judged formatting.NotReady s = failed s failure.Aborted
-format_judged formatting.Protected s = failed s failure.Aborted
-format_judged formatting.BadHead s = failed s failure.Aborted
-format_judged formatting.BadCount s = failed s failure.Aborted
-format_judged formatting.TooLong s = failed s failure.Aborted
-format_judged formatting.Formatted s = ended (with_registers s (at_count_0 s.registers))
+abbrev pub format_judged : Result (Unit {0}) FormatError → State → State
+format_judged (Ok _) s = ended (with_registers s (at_count_0 s.registers))
+format_judged (Err e) s = failed s failure.Aborted

@@ -1,5 +1,5 @@
 -- The beginning of a command.
-use Rattle.std.specs.Prelude.{cond, None}
+use Rattle.std.specs.Prelude.{cond, Option}
 use Rattle.task_file.specs.declared.registers.Registers.{Registers}
 use Rattle.task_file.specs.declared.command.Command.{Command}
 use Rattle.task_file.specs.declared.command.Command.TheVariants.{Test, Restore, Seek, Read, Write, Format}
@@ -11,15 +11,15 @@ use Rattle.task_file.specs.declared.state.Phase.TheVariants.{Busy, Taking}
 use Rattle.task_file.specs.declared.state.State.{State}
 use Rattle.task_file.specs.declared.view.DriveView.{DriveView}
 use Rattle.task_file.specs.Registers.{at_cylinder_0}
-use Rattle.task_file.specs.State.{with_note, with_phase, cleared, failed}
-use Rattle.task_file.specs.Aborting.{aborts, guards}
+use Rattle.task_file.specs.State.{first_read, with_note, with_phase, cleared, failed}
+use Rattle.task_file.specs.Aborting.{aborts, notes}
 
 -- the phase that a command begins with: Write and Format first take their bytes
 abbrev pub first_phase : Command → Phase
 first_phase Test = Busy job.Test
 first_phase Restore = Busy (job.Restore 0)
 first_phase Seek = Busy job.Seek
-first_phase (Read m) = Busy (job.Read (record { mode = m; attempts = 0; previous = None }))
+first_phase (Read m) = Busy (job.Read (first_read m))
 first_phase (Write m) = Taking (Sector m) 0
 first_phase Format = Taking Track 0
 
@@ -33,9 +33,9 @@ registers_for (Write m) r = r
 registers_for Format r = r
 
 -- an accepted command begins, or is aborted; aborted on a protected floppy, a Write or Format sets the protection note
-abbrev pub begun_from : State → Command → DriveView → State
+abbrev pub begun_from : State → Command → Option DriveView → State
 begun_from s c v =
-    cond (aborts c s.registers v) (failed (with_note s (guards c v)) Aborted) (with_phase s (first_phase c))
+    cond (aborts c s.registers v) (failed (with_note s (notes c v)) Aborted) (with_phase s (first_phase c))
 
-unfoldable pub begun : State → Command → DriveView → State
+unfoldable pub begun : State → Command → Option DriveView → State
 begun s c v = begun_from (cleared (registers_for c s.registers) s.buffer) c v

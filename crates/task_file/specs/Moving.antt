@@ -1,5 +1,5 @@
 -- Bytes that move between the host and the buffer.
-use Rattle.std.specs.Prelude.{ℕ, ◌+◌, ◌-◌, Bool, false, cond, not, ◌&&◌, take, None, ◌==◌, nat_lt, slice_index, slice_set}
+use Rattle.std.specs.Prelude.{ℕ, ◌+◌, ◌-◌, Bool, false, cond, not, ◌&&◌, take, ◌==◌, nat_lt, slice_index, slice_set}
 use Rattle.sector.specs.declared.size.SizeCode.{SizeCode}
 use Rattle.sector.specs.Sizes.{bytes_of}
 use Rattle.check_code.specs.Code.{check_bytes_of}
@@ -12,7 +12,7 @@ use Rattle.task_file.specs.declared.state.Load.TheVariants.{Sector, Track}
 use Rattle.task_file.specs.declared.state.Phase.TheVariants.{Rest, Busy, Offering, Taking}
 use Rattle.task_file.specs.declared.state.State.{State}
 use Rattle.task_file.specs.Registers.{size_at, mode_at}
-use Rattle.task_file.specs.State.{with_phase, with_buffer, ended}
+use Rattle.task_file.specs.State.{first_read, with_phase, with_buffer, ended}
 
 -- how many bytes move for a sector: its own, and four check bytes where L is 1
 abbrev pub moved_length : SizeCode → Bool → ℕ
@@ -33,7 +33,7 @@ with_byte b n at byte =
 abbrev pub all_drawn : State → ReadMode → State
 all_drawn s m =
     cond (m.multiple && not (s.registers.count == 0))
-    (with_phase s (Busy (job.Read (record { mode = m; attempts = 0; previous = None }))))
+    (with_phase s (Busy (job.Read (first_read m))))
     (cond m.dma (ended s) (with_phase s Rest))
 
 -- a byte was drawn

@@ -8,7 +8,18 @@ use Rattle.task_file.specs.declared.registers.Register.{Register}
 use Rattle.task_file.specs.declared.registers.Register.TheVariants as register
 use Rattle.task_file.specs.declared.registers.Registers.{Registers}
 use Rattle.task_file.specs.declared.registers.Selection.{Selection}
-use Rattle.task_file.specs.declared.registers.Selection.TheVariants.{Winchester, Floppy, NoDrive}
+use Rattle.task_file.specs.declared.registers.Selection.TheVariants.{Winchester, Floppy}
+
+-- the number of a register
+abbrev pub register_number : Register → ℕ
+register_number register.Data = 0
+register_number register.Error = 1
+register_number register.Count = 2
+register_number register.Number = 3
+register_number register.Low = 4
+register_number register.High = 5
+register_number register.Sdh = 6
+register_number register.Status = 7
 
 -- the register of a number; there is none above 7
 abbrev pub register_numbered : ℕ → Option Register
@@ -51,10 +62,10 @@ mode_at sdh = cond (nat_le 128 sdh) Ecc Crc
 
 -- the drive and its head: bits 4 and 3 of SDH are 0 for Winchester 1, with the head in bits 2 to 0, or 3 for a floppy;
 -- then bits 2 and 1 are 0 for floppy 1, and bit 0 is the head. Anything else selects no drive.
-abbrev pub selected : ℕ → Selection
+abbrev pub selected : ℕ → Option Selection
 selected sdh =
-    cond (sdh / 8 % 4 == 0) (Winchester (sdh % 8))
-    (cond (sdh / 8 % 4 == 3 && sdh / 2 % 4 == 0) (Floppy (sdh % 2)) NoDrive)
+    cond (sdh / 8 % 4 == 0) (Some (Winchester (sdh % 8)))
+    (cond (sdh / 8 % 4 == 3 && sdh / 2 % 4 == 0) (Some (Floppy (sdh % 2))) None)
 
 -- how many sectors a count stands for: 0 is 256
 abbrev pub sector_count : Registers → ℕ

@@ -1,13 +1,20 @@
 -- The state of the controller, and small changes of it.
-use Rattle.std.specs.Prelude.{Bool, true, false, replicate, Some, None}
+use Rattle.std.specs.Prelude.{Bool, true, false, Some, None}
 use Rattle.drive.specs.declared.buffer.SectorBuffer.{SectorBuffer}
+use Rattle.drive.specs.Calls.{blank_buffer}
 use Rattle.task_file.specs.declared.registers.Registers.{Registers}
 use Rattle.task_file.specs.declared.failure.Failure.{Failure}
+use Rattle.task_file.specs.declared.command.ReadMode.{ReadMode}
+use Rattle.task_file.specs.declared.state.ReadJob.{ReadJob}
 use Rattle.task_file.specs.declared.state.Job.TheVariants as job
 use Rattle.task_file.specs.declared.state.Phase.{Phase}
 use Rattle.task_file.specs.declared.state.Phase.TheVariants.{Rest, Busy, Offering, Taking}
 use Rattle.task_file.specs.declared.state.State.{State}
 use Rattle.task_file.specs.Registers.{cleared_registers}
+
+-- a read before its first attempt at a sector
+abbrev pub first_read : ReadMode → ReadJob
+first_read m = record { mode = m; attempts = 0; previous = None }
 
 -- ---- one part changed, the others kept
 abbrev pub with_registers : State → Registers → State
@@ -40,10 +47,6 @@ with_corrected s b =
     record { registers = s.registers; failure = s.failure; corrected = true; note = s.note; intrq = s.intrq; phase = s.phase; buffer = b }
 
 -- ---- beginnings and ends
--- a buffer of zeros
-abbrev pub blank_buffer : SectorBuffer
-blank_buffer = record { bytes = replicate 1024 0; check = replicate 4 0 }
-
 -- all that an accepted command clears, with these registers; what was moving is dropped
 abbrev pub cleared : Registers → SectorBuffer → State
 cleared r b = record { registers = r; failure = None; corrected = false; note = false; intrq = false; phase = Rest; buffer = b }

@@ -2,7 +2,7 @@
 ghost use Rattle.std.specs.Prelude.{◌≡◌, ℕ, ◌+◌, ◌≤◌, take};
 ghost use Rattle.sector.specs.Sizes.{bytes_of};
 ghost use Rattle.task_file.specs.Registers.{size_at, mode_at};
-ghost use Rattle.task_file.specs.Attempts.{attempts_with, sector_failure, offering, sector_taken, seen_before, retried, outcome_of, verdict_of, read_failed, mended_buffer, corrected_by, read_by, read_judged, sector_written, write_judged, id_at, ids_of, zero_check, format_judged};
+ghost use Rattle.task_file.specs.Attempts.{attempts_with, address_under, sector_failure, offering, sector_taken, retried, outcome_of, verdict_of, read_failed, mended_buffer, corrected_by, read_by, read_judged, sector_written, write_judged, id_at, ids_of, zero_check, format_judged};
 
 use super::command::{ReadMode, WriteMode};
 use super::failure::{Failure, SectorError, SectorFailure};
@@ -10,26 +10,14 @@ use super::registers::Registers;
 use super::state::{Job, Load, Phase, ReadJob, State, WriteJob};
 use burst::{find_burst, mend};
 use check_code::CheckMode;
-use drive::{Formatting, Place, Reading, SectorBuffer, SectorId, Writing};
+use drive::{FormatError, Place, ReadError, SectorAddress, SectorBuffer, SectorId, WriteError};
 use sector::{Burst, SizeCode};
+use std::array;
 
 // How often a sector is tried.
 const TRIES: u8 = 9;
 
-// What a read attempt showed.
-#[derive(Clone, Copy)]
-pub enum Outcome {
-    NotReady,
-    NoId,
-    BadBlock,
-    NoDataMark,
-    // A delivery that is not judged, as L is 1.
-    Unjudged,
-    // A delivery with this difference.
-    Difference(u32),
-}
-
-// What is done about it.
+// What is done about a read attempt.
 #[derive(Clone, Copy)]
 pub enum Verdict {
     Take,
@@ -47,16 +35,6 @@ fn attempts_with(attempts: u8) -> u8
     attempts.min(TRIES - 1) + 1
 }
 
-// Whether the attempt just before had this difference.
-fn seen_before(previous: Option<u32>, difference: u32) -> bool
-    ensures { result ≡ seen_before previous difference }
-{
-    match previous {
-        Some(before) => before == difference,
-        None => false,
-    }
-}
-
 // Another attempt, or after the ninth the failure.
 fn retried(attempts: u8, previous: Option<u32>, error: SectorError) -> Verdict
     ensures { result ≡ retried attempts previous error }
@@ -68,29 +46,41 @@ fn retried(attempts: u8, previous: Option<u32>, error: SectorError) -> Verdict
     }
 }
 
-// Judges what an attempt showed, by the attempts made before it and the difference of the one just before.
-fn verdict_on(mode: CheckMode, attempts: u8, previous: Option<u32>, outcome: Outcome) -> Verdict
+// Judges what an attempt showed, by the attempts made before it and the difference of the one just before. What was delivered
+// shows a difference, unless it is not judged.
+fn verdict_on(
+    mode: CheckMode,
+    attempts: u8,
+    previous: Option<u32>,
+    outcome: Result<Option<u32>, ReadError>,
+) -> Verdict
     ensures { result ≡ verdict_of mode attempts previous outcome }
 {
-    match (outcome, mode) {
-        (Outcome::NotReady, _) => Verdict::Abort,
-        (Outcome::NoId, _) => retried(attempts, None, SectorError::IdNotFound),
-        (Outcome::BadBlock, _) => Verdict::Fail(SectorError::BadBlock),
-        (Outcome::NoDataMark, _) => retried(attempts, None, SectorError::NoDataMark),
-        (Outcome::Unjudged, _) => Verdict::Take,
-        (Outcome::Difference(0), _) => Verdict::Take,
-        (Outcome::Difference(difference), CheckMode::Ecc) if seen_before(previous, difference) => {
+    match outcome {
+        Err(ReadError::NotReady) => Verdict::Abort,
+        Err(ReadError::NoId) => retried(attempts, None, SectorError::IdNotFound),
+        Err(ReadError::BadBlock) => Verdict::Fail(SectorError::BadBlock),
+        Err(ReadError::NoDataMark) => retried(attempts, None, SectorError::NoDataMark),
+        Ok(None | Some(0)) => Verdict::Take,
+        Ok(Some(difference)) if mode == CheckMode::Ecc && previous == Some(difference) => {
             Verdict::Correct(difference)
         }
-        (Outcome::Difference(difference), _) => retried(
-            attempts,
-            Some(difference),
-            SectorError::Data,
-        ),
+        Ok(Some(difference)) => retried(attempts, Some(difference), SectorError::Data),
     }
 }
 
 impl Registers {
+    // The sector that the registers name, under a head.
+    pub fn address(self, head: u8) -> SectorAddress
+        ensures { result ≡ address_under self head }
+    {
+        SectorAddress {
+            head,
+            number: self.number,
+            size: self.size(),
+        }
+    }
+
     // A failure at the sector that the registers name.
     fn failure(self, head: u8, attempts: u8, error: SectorError) -> Failure
         ensures { result ≡ sector_failure self head attempts error }
@@ -108,35 +98,28 @@ impl Registers {
     }
 }
 
-// What an attempt showed, by its answer and what it left in the buffer.
+// What an attempt showed, by its answer and what it left in the buffer: where L is 1 it is not judged.
 fn outcome_of(
-    answer: Reading,
+    answer: Result<(), ReadError>,
     long: bool,
     mode: CheckMode,
     size: SizeCode,
     buffer: &SectorBuffer,
-) -> Outcome
+) -> Result<Option<u32>, ReadError>
     ensures { result ≡ outcome_of answer long mode size buffer.now }
 {
-    match answer {
-        Reading::NotReady => Outcome::NotReady,
-        Reading::NoId => Outcome::NoId,
-        Reading::BadBlock => Outcome::BadBlock,
-        Reading::NoDataMark => Outcome::NoDataMark,
-        Reading::Delivered if long => Outcome::Unjudged,
-        Reading::Delivered => {
-            let bytes = size.bytes();
-            Outcome::Difference(mode.difference(&buffer.bytes[0..bytes], buffer.check))
-        }
+    answer?;
+    if long {
+        return Ok(None);
     }
+    Ok(Some(mode.difference(buffer.sector(size), buffer.check)))
 }
 
-// Inverts a burst in the sector's bytes.
+// Inverts a burst in the sector's bytes. No call can lend a part of the buffer's array for writing, so size and part are here.
 fn mend_buffer(buffer: &mut SectorBuffer, size: SizeCode, burst: Burst)
     ensures { buffer.new ≡ mended_buffer (bytes_of size) burst buffer.old }
 {
-    let bytes = size.bytes();
-    mend(&mut buffer.bytes[0..bytes], burst);
+    mend(&mut buffer.bytes[..size.bytes()], burst);
 }
 
 impl State {
@@ -171,10 +154,7 @@ impl State {
             self.fail(failure);
         } else {
             self.failure = Some(failure);
-            self.buffer = SectorBuffer {
-                bytes: [0; 1024],
-                check: [0; 4],
-            };
+            self.buffer = SectorBuffer::zeroed();
             self.offer(mode, true);
         }
     }
@@ -194,7 +174,7 @@ impl State {
         }
     }
 
-    // Does what a verdict says.
+    // Does what a verdict says. The job began with its command; the head comes from SDH at each turn.
     fn follow(&mut self, verdict: Verdict, job: ReadJob, head: u8)
         ensures { self.new ≡ read_by verdict self.old job head }
     {
@@ -208,9 +188,9 @@ impl State {
             }
             Verdict::Retry(previous) => {
                 self.phase = Phase::Busy(Job::Read(ReadJob {
-                    mode: job.mode,
                     attempts: attempts_with(job.attempts),
                     previous,
+                    ..job
                 }));
             }
             Verdict::Fail(error) => {
@@ -221,17 +201,15 @@ impl State {
     }
 
     // Judges a read attempt by its answer and what it delivered into the buffer.
-    pub fn judge_read(&mut self, answer: Reading, job: ReadJob, head: u8)
+    #[tactic(auto, unfolding(crate::specs::Attempts::read_judged))]
+    pub fn judge_read(&mut self, answer: Result<(), ReadError>, job: ReadJob, head: u8)
         ensures { self.new ≡ read_judged answer self.old job head }
     {
         let mode = self.registers.mode();
         let size = self.registers.size();
-        let shown = outcome_of(answer, job.mode.long, mode, size, &self.buffer);
-        self.follow(
-            verdict_on(mode, job.attempts, job.previous, shown),
-            job,
-            head,
-        );
+        let outcome = outcome_of(answer, job.mode.long, mode, size, &self.buffer);
+        let verdict = verdict_on(mode, job.attempts, job.previous, outcome);
+        self.follow(verdict, job, head);
     }
 
     // The sector is written: the next one is asked for, or the write ends.
@@ -248,65 +226,57 @@ impl State {
         self.end();
     }
 
-    // Judges a write attempt by its answer.
-    pub fn judge_write(&mut self, answer: Writing, job: WriteJob, head: u8)
+    // Judges a write attempt by its answer. A write has no difference to keep, so its next attempt is no `retried` read's.
+    pub fn judge_write(&mut self, answer: Result<(), WriteError>, job: WriteJob, head: u8)
         ensures { self.new ≡ write_judged answer self.old job head }
     {
         let registers = self.registers;
         match answer {
-            Writing::NotReady | Writing::Protected => self.fail(Failure::Aborted),
-            Writing::NoId if job.attempts < TRIES - 1 => {
+            Ok(()) => self.finish_sector(job.mode),
+            Err(WriteError::NotReady | WriteError::Protected) => self.fail(Failure::Aborted),
+            Err(WriteError::NoId) if job.attempts < TRIES - 1 => {
                 self.phase = Phase::Busy(Job::Write(WriteJob {
-                    mode: job.mode,
                     attempts: attempts_with(job.attempts),
+                    ..job
                 }));
             }
-            Writing::NoId => {
+            Err(WriteError::NoId) => {
                 self.fail(registers.failure(head, job.attempts, SectorError::IdNotFound));
             }
-            Writing::BadBlock => {
+            Err(WriteError::BadBlock) => {
                 self.fail(registers.failure(head, job.attempts, SectorError::BadBlock));
             }
-            Writing::Written => self.finish_sector(job.mode),
         }
     }
 
     // Judges a format by its answer.
-    pub fn judge_format(&mut self, answer: Formatting)
+    pub fn judge_format(&mut self, answer: Result<(), FormatError>)
         ensures { self.new ≡ format_judged answer self.old }
     {
         match answer {
-            Formatting::Formatted => {
+            Ok(()) => {
                 self.registers.count = 0;
                 self.end();
             }
-            _ => self.fail(Failure::Aborted),
+            Err(_) => self.fail(Failure::Aborted),
         }
     }
 }
 
-// The sectors that the pairs of a format's bytes give: mark, then number.
+// The sectors that the pairs of a format's bytes give: mark, then number. There is no heap for a list of just those that are
+// meant, so all that a track can have are given.
 pub fn format_ids(bytes: &[u8; 1024]) -> [SectorId; 64]
     ensures { (n : ℕ) → n ≤ 64 → take n result ≡ ids_of bytes.now n }
 {
-    let mut ids = [SectorId {
-        number: 0,
-        bad: false,
-    }; 64];
-    for i in 0..64usize {
-        ids[i] = SectorId {
-            number: bytes[2 * i + 1],
-            bad: bytes[2 * i] >= 128,
-        };
-    }
-    ids
+    array::from_fn(|i| SectorId {
+        number: bytes[2 * i + 1],
+        bad: bytes[2 * i] >= 128,
+    })
 }
 
 // The check bytes of a sector of zeros.
 pub fn zero_check(mode: CheckMode, size: SizeCode) -> [u8; 4]
     ensures { result ≡ zero_check mode size }
 {
-    let zeros = [0u8; 1024];
-    let bytes = size.bytes();
-    mode.bytes_for(&zeros[0..bytes])
+    mode.bytes_for(SectorBuffer::zeroed().sector(size))
 }

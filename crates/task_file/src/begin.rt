@@ -6,7 +6,7 @@ use super::command::Command;
 use super::failure::Failure;
 use super::registers::Registers;
 use super::state::{Job, Load, Phase, ReadJob, State};
-use super::view::DriveView;
+use super::view::{DriveView, aborts};
 
 // The phase that a command begins with, where it is not aborted.
 fn first_phase(command: Command) -> Phase
@@ -16,11 +16,7 @@ fn first_phase(command: Command) -> Phase
         Command::Test => Phase::Busy(Job::Test),
         Command::Restore => Phase::Busy(Job::Restore(0)),
         Command::Seek => Phase::Busy(Job::Seek),
-        Command::Read(mode) => Phase::Busy(Job::Read(ReadJob {
-            mode,
-            attempts: 0,
-            previous: None,
-        })),
+        Command::Read(mode) => Phase::Busy(Job::Read(ReadJob::first(mode))),
         Command::Write(mode) => Phase::Taking(Load::Sector(mode), 0),
         Command::Format => Phase::Taking(Load::Track, 0),
     }
@@ -42,17 +38,13 @@ fn registers_for(command: Command, registers: Registers) -> Registers
 
 impl State {
     // An accepted command: flags, failure and line are cleared, what was moving is dropped, and it begins or is aborted.
-    pub fn begin(&mut self, command: Command, view: DriveView)
+    #[tactic(auto, unfolding(crate::specs::Beginning::begun))]
+    pub fn begin(&mut self, command: Command, view: Option<DriveView>)
         ensures { self.new ≡ begun self.old command view }
     {
-        self.registers = registers_for(command, self.registers);
-        self.failure = None;
-        self.corrected = false;
-        self.note = false;
-        self.intrq = false;
-        self.phase = Phase::Rest;
-        if view.aborts(command, self.registers) {
-            self.note = view.guards(command);
+        self.clear(registers_for(command, self.registers));
+        if aborts(view, command, self.registers) {
+            self.note = view.is_some_and(|drive| drive.guards(command));
             self.fail(Failure::Aborted);
         } else {
             self.phase = first_phase(command);

@@ -1,6 +1,9 @@
 // The commands, and the bytes that give them.
 ghost use Rattle.std.specs.Prelude.{◌≡◌, ◌<◌};
+ghost use Rattle.std.specs.Result.{result_ok};
 ghost use Rattle.task_file.specs.Commands.{has_bit, read_given, write_given, command_of, writes, is_long};
+
+use thiserror::Error;
 
 // How a read goes.
 #[derive(Clone, Copy)]
@@ -32,6 +35,11 @@ pub enum Command {
     Format,
 }
 
+// The error of a byte that gives no command.
+#[derive(Clone, Copy, PartialEq, Eq, Debug, Error)]
+#[error("the byte gives no command")]
+pub struct NoSuchCommand;
+
 // A bit of a byte.
 fn bit(byte: u8, weight: u8) -> bool
     requires { 0 < weight }
@@ -41,13 +49,13 @@ fn bit(byte: u8, weight: u8) -> bool
 }
 
 // The read that a byte gives, if it is one.
-fn read_given(byte: u8) -> Option<Command>
-    ensures { result ≡ read_given byte }
+fn read_given(byte: u8) -> Result<Command, NoSuchCommand>
+    ensures { result_ok result ≡ read_given byte }
 {
     if bit(byte, 1) {
-        return None;
+        return Err(NoSuchCommand);
     }
-    Some(Command::Read(ReadMode {
+    Ok(Command::Read(ReadMode {
         dma: bit(byte, 8),
         multiple: bit(byte, 4),
         long: bit(byte, 2),
@@ -55,34 +63,39 @@ fn read_given(byte: u8) -> Option<Command>
 }
 
 // The write that a byte gives, if it is one.
-fn write_given(byte: u8) -> Option<Command>
-    ensures { result ≡ write_given byte }
+fn write_given(byte: u8) -> Result<Command, NoSuchCommand>
+    ensures { result_ok result ≡ write_given byte }
 {
     if bit(byte, 1) || bit(byte, 8) {
-        return None;
+        return Err(NoSuchCommand);
     }
-    Some(Command::Write(WriteMode {
+    Ok(Command::Write(WriteMode {
         multiple: bit(byte, 4),
         long: bit(byte, 2),
     }))
 }
 
-impl Command {
+impl TryFrom<u8> for Command {
+    type Error = NoSuchCommand;
+
+    ghost try_from_gives = { λ byte made. result_ok made ≡ command_of byte };
+
     // The command that a byte gives, if it is accepted.
-    pub fn given_by(byte: u8) -> Option<Command>
-        ensures { result ≡ command_of byte }
-    {
-        match byte / 16 {
-            1 => Some(Command::Restore),
-            2 => read_given(byte),
-            3 => write_given(byte),
-            5 if byte == 0x50 => Some(Command::Format),
-            7 => Some(Command::Seek),
-            9 if byte == 0x90 => Some(Command::Test),
-            _ => None,
+    #[tactic(auto, unfolding(crate::specs::Commands::command_of))]
+    fn try_from(byte: u8) -> Result<Command, NoSuchCommand> {
+        match byte {
+            0x10..=0x1f => Ok(Command::Restore),
+            0x20..=0x2f => read_given(byte),
+            0x30..=0x3f => write_given(byte),
+            0x50 => Ok(Command::Format),
+            0x70..=0x7f => Ok(Command::Seek),
+            0x90 => Ok(Command::Test),
+            _ => Err(NoSuchCommand),
         }
     }
+}
 
+impl Command {
     // Whether it is Write or Format.
     pub fn writes(self) -> bool
         ensures { result ≡ writes self }

@@ -4,13 +4,13 @@ ghost use Rattle.task_file.specs.Failures.{sector_error_bit, error_bit, layer_of
 
 use drive::Place;
 
-// What an attempt at a sector can fail for.
+// What an attempt at a sector can fail for, by its bit of the error register.
 #[derive(Clone, Copy, PartialEq, Eq, Debug)]
 pub enum SectorError {
-    BadBlock,
-    Data,
-    IdNotFound,
-    NoDataMark,
+    BadBlock = 0x80,
+    Data = 0x40,
+    IdNotFound = 0x10,
+    NoDataMark = 0x01,
 }
 
 // A failure at a sector: the attempts made at its place count those of this command.
@@ -30,16 +30,17 @@ pub enum Failure {
     Sector(SectorFailure),
 }
 
-// The layer that a failure came from.
+// The layer that a failure came from, by its number.
 #[derive(Clone, Copy)]
 pub enum Layer {
-    Controller,
-    Drive,
-    CheckCode,
+    Controller = 1,
+    Drive = 2,
+    CheckCode = 3,
 }
 
 // The last fault, as numbers: the layer, the error register, the place, and the attempts made there.
-#[derive(Clone, Copy, PartialEq, Eq, Debug)]
+// It stays a flat record of plain numbers, which programs and tests take apart.
+#[derive(Clone, Copy, PartialEq, Eq, Debug, Default)]
 pub struct Fault {
     pub layer: u8,
     pub error: u8,
@@ -54,30 +55,21 @@ impl SectorError {
     pub fn bit(self) -> u8
         ensures { result ≡ sector_error_bit self }
     {
-        match self {
-            SectorError::BadBlock => 0x80,
-            SectorError::Data => 0x40,
-            SectorError::IdNotFound => 0x10,
-            SectorError::NoDataMark => 0x01,
-        }
+        self as u8
     }
 }
 
-impl Layer {
-    // Its number.
-    pub fn number(self) -> u8
-        ensures { result ≡ layer_number self }
-    {
-        match self {
-            Layer::Controller => 1,
-            Layer::Drive => 2,
-            Layer::CheckCode => 3,
-        }
+impl From<Layer> for u8 {
+    ghost from_gives = { λ layer number. number ≡ layer_number layer };
+
+    // The number of a layer.
+    fn from(layer: Layer) -> u8 {
+        layer as u8
     }
 }
 
 impl Failure {
-    // Its bit of the error register.
+    // Its bit of the error register. The third case has another's error in it, so the bits are no discriminants.
     pub fn bit(self) -> u8
         ensures { result ≡ error_bit self }
     {
@@ -100,30 +92,27 @@ impl Failure {
             },
         }
     }
+}
+
+impl From<Failure> for Fault {
+    ghost from_gives = { λ failure fault. fault ≡ fault_of failure };
 
     // The failure as numbers; where the controller itself failed, place and attempts are 0.
-    pub fn fault(self) -> Fault
-        ensures { result ≡ fault_of self }
-    {
-        let layer = self.layer().number();
-        let error = self.bit();
-        match self {
-            Failure::Sector(failure) => Fault {
-                layer,
-                error,
-                cylinder: failure.place.cylinder,
-                head: failure.place.head,
-                number: failure.place.number,
-                attempts: failure.attempts,
+    fn from(failure: Failure) -> Fault {
+        let controller = Fault {
+            layer: u8::from(failure.layer()),
+            error: failure.bit(),
+            ..Fault::default()
+        };
+        match failure {
+            Failure::Sector(at_sector) => Fault {
+                cylinder: at_sector.place.cylinder,
+                head: at_sector.place.head,
+                number: at_sector.place.number,
+                attempts: at_sector.attempts,
+                ..controller
             },
-            _ => Fault {
-                layer,
-                error,
-                cylinder: 0,
-                head: 0,
-                number: 0,
-                attempts: 0,
-            },
+            _ => controller,
         }
     }
 }

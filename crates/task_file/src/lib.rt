@@ -16,8 +16,8 @@ mod status;
 mod view;
 
 pub use attempts::{format_ids, zero_check};
-pub use command::{Command, ReadMode, WriteMode};
+pub use command::{Command, NoSuchCommand, ReadMode, WriteMode};
 pub use failure::{Failure, Fault, Layer, SectorError, SectorFailure};
-pub use registers::{Register, Registers, Selection};
+pub use registers::{NoSuchRegister, Register, Registers, Selection};
 pub use state::{Job, Load, Phase, ReadJob, State, WriteJob};
 pub use view::DriveView;

@@ -17,7 +17,7 @@ fn moved_length(size: SizeCode, long: bool) -> u16
     if long { bytes + 4 } else { bytes }
 }
 
-// The byte of the buffer that moves at a place: the sector's bytes first, then the check bytes.
+// The byte of the buffer that moves at a place: the sector's bytes first, as many as the size says, then the check bytes.
 fn byte_at(buffer: &SectorBuffer, size: SizeCode, at: u16) -> u8
     ensures { result ≡ byte_at buffer.now (bytes_of size) at }
 {
@@ -26,11 +26,11 @@ fn byte_at(buffer: &SectorBuffer, size: SizeCode, at: u16) -> u8
     if at < bytes {
         return buffer.bytes[at];
     }
-    let i = at - bytes;
-    if i < 4 { buffer.check[i] } else { 0 }
+    buffer.check.get(at - bytes).copied().unwrap_or(0)
 }
 
-// Puts a byte into the buffer at a place.
+// Puts a byte into the buffer at a place. What a write through `get_mut` leaves is not known to a proof, so it is by index;
+// where the place lies is worked out as in `byte_at`, in two lines that a type for it would not shorten.
 fn put_at(buffer: &mut SectorBuffer, size: SizeCode, at: u16, byte: u8)
     ensures { buffer.new ≡ with_byte buffer.old (bytes_of size) at byte }
 {
@@ -38,11 +38,8 @@ fn put_at(buffer: &mut SectorBuffer, size: SizeCode, at: u16, byte: u8)
     let bytes = size.bytes();
     if at < bytes {
         buffer.bytes[at] = byte;
-    } else {
-        let i = at - bytes;
-        if i < 4 {
-            buffer.check[i] = byte;
-        }
+    } else if at - bytes < 4 {
+        buffer.check[at - bytes] = byte;
     }
 }
 
@@ -52,11 +49,7 @@ impl State {
         ensures { self.new ≡ all_drawn self.old mode }
     {
         if mode.multiple && self.registers.count != 0 {
-            self.phase = Phase::Busy(Job::Read(ReadJob {
-                mode,
-                attempts: 0,
-                previous: None,
-            }));
+            self.phase = Phase::Busy(Job::Read(ReadJob::first(mode)));
         } else {
             self.phase = Phase::Rest;
             if mode.dma {
@@ -66,6 +59,7 @@ impl State {
     }
 
     // The byte offered at a place goes out.
+    #[tactic(auto, unfolding(crate::specs::Moving::drawn))]
     pub fn draw(&mut self, mode: ReadMode, at: u16) -> u8
         ensures byte { result ≡ byte_at self.old.buffer (bytes_of (size_at self.old.registers.sdh)) at }
         ensures after { self.new ≡ drawn self.old mode at }
@@ -84,11 +78,8 @@ impl State {
     fn add_check(&mut self)
         ensures { self.new ≡ checked self.old }
     {
-        let bytes = self.registers.size().bytes();
-        self.buffer.check = self
-            .registers
-            .mode()
-            .bytes_for(&self.buffer.bytes[0..bytes]);
+        let bytes = self.buffer.sector(self.registers.size());
+        self.buffer.check = self.registers.mode().bytes_for(bytes);
     }
 
     // The last byte was taken: the sector or the track is to be written.
@@ -107,6 +98,7 @@ impl State {
     }
 
     // A byte comes in at a place.
+    #[tactic(auto, unfolding(crate::specs::Moving::put))]
     pub fn put(&mut self, load: Load, at: u16, byte: u8)
         ensures { self.new ≡ put self.old load at byte }
     {

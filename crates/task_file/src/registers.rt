@@ -1,33 +1,38 @@
 // The eight registers, and what those that the host writes say.
 ghost use Rattle.std.specs.Prelude.{◌≡◌};
-ghost use Rattle.task_file.specs.Registers.{register_numbered, cylinder_of, size_at, mode_at, selected, next_sector, sector_count, stored};
+ghost use Rattle.std.specs.Result.{result_ok};
+ghost use Rattle.task_file.specs.Registers.{register_number, register_numbered, cylinder_of, size_at, mode_at, selected, next_sector, sector_count, stored};
 
 use check_code::CheckMode;
 use sector::SizeCode;
+use thiserror::Error;
 
-// A register, by what it is for.
+// A register, by its number.
 #[derive(Clone, Copy)]
 pub enum Register {
-    // Data, number 0.
-    Data,
-    // The error register, number 1.
-    Error,
-    // Sector count, number 2.
-    Count,
-    // Sector number, number 3.
-    Number,
-    // Cylinder low, number 4.
-    Low,
-    // Cylinder high, number 5.
-    High,
-    // Size, drive and head, number 6.
-    Sdh,
-    // Status when read and command when written, number 7.
-    Status,
+    Data = 0,
+    Error = 1,
+    // Sector count.
+    Count = 2,
+    // Sector number.
+    Number = 3,
+    // Cylinder low.
+    Low = 4,
+    // Cylinder high.
+    High = 5,
+    // Size, drive and head.
+    Sdh = 6,
+    // Status when read and command when written.
+    Status = 7,
 }
 
-// The registers that keep what the host writes.
-#[derive(Clone, Copy)]
+// The error of a number that no register has.
+#[derive(Clone, Copy, PartialEq, Eq, Debug, Error)]
+#[error("no register has this number")]
+pub struct NoSuchRegister;
+
+// The registers that keep what the host writes; all are 0 at first.
+#[derive(Clone, Copy, Default)]
 pub struct Registers {
     pub count: u8,
     pub number: u8,
@@ -36,30 +41,40 @@ pub struct Registers {
     pub sdh: u8,
 }
 
-// The drive that SDH selects, with the head on it.
+// A drive that SDH can select, with the head on it.
 #[derive(Clone, Copy)]
 pub enum Selection {
     Winchester(u8),
     Floppy(u8),
-    NoDrive,
 }
 
-impl Register {
+impl TryFrom<u8> for Register {
+    type Error = NoSuchRegister;
+
+    ghost try_from_gives = { λ number made. result_ok made ≡ register_numbered number };
+
     // The register of a number, if it has one.
-    pub fn numbered(number: u8) -> Option<Register>
-        ensures { result ≡ register_numbered number }
-    {
+    fn try_from(number: u8) -> Result<Register, NoSuchRegister> {
         match number {
-            0 => Some(Register::Data),
-            1 => Some(Register::Error),
-            2 => Some(Register::Count),
-            3 => Some(Register::Number),
-            4 => Some(Register::Low),
-            5 => Some(Register::High),
-            6 => Some(Register::Sdh),
-            7 => Some(Register::Status),
-            _ => None,
+            0 => Ok(Register::Data),
+            1 => Ok(Register::Error),
+            2 => Ok(Register::Count),
+            3 => Ok(Register::Number),
+            4 => Ok(Register::Low),
+            5 => Ok(Register::High),
+            6 => Ok(Register::Sdh),
+            7 => Ok(Register::Status),
+            _ => Err(NoSuchRegister),
         }
+    }
+}
+
+impl From<Register> for u8 {
+    ghost from_gives = { λ register number. number ≡ register_number register };
+
+    // The number of a register.
+    fn from(register: Register) -> u8 {
+        register as u8
     }
 }
 
@@ -68,19 +83,14 @@ impl Registers {
     pub fn cylinder(self) -> u16
         ensures { result ≡ cylinder_of self }
     {
-        (self.high % 4) as u16 * 256 + self.low as u16
+        u16::from_be_bytes([self.high % 4, self.low])
     }
 
     // The sector size, in bits 6 and 5 of SDH.
     pub fn size(self) -> SizeCode
         ensures { result ≡ size_at self.sdh }
     {
-        match self.sdh / 32 % 4 {
-            0 => SizeCode::Bytes256,
-            1 => SizeCode::Bytes512,
-            2 => SizeCode::Bytes1024,
-            _ => SizeCode::Bytes128,
-        }
+        SizeCode::try_from(self.sdh / 32 % 4).unwrap()
     }
 
     // The check code, in bit 7 of SDH.
@@ -94,14 +104,14 @@ impl Registers {
         }
     }
 
-    // The drive and the head, in bits 4 to 0 of SDH.
-    pub fn selection(self) -> Selection
+    // The drive and the head, in bits 4 to 0 of SDH, if they select a drive.
+    pub fn selection(self) -> Option<Selection>
         ensures { result ≡ selected self.sdh }
     {
         match self.sdh / 8 % 4 {
-            0 => Selection::Winchester(self.sdh % 8),
-            3 if self.sdh / 2 % 4 == 0 => Selection::Floppy(self.sdh % 2),
-            _ => Selection::NoDrive,
+            0 => Some(Selection::Winchester(self.sdh % 8)),
+            3 if self.sdh / 2 % 4 == 0 => Some(Selection::Floppy(self.sdh % 2)),
+            _ => None,
         }
     }
 
@@ -112,7 +122,7 @@ impl Registers {
         if self.count == 0 {
             256
         } else {
-            self.count as u16
+            u16::from(self.count)
         }
     }
 

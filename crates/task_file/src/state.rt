@@ -1,6 +1,6 @@
 // The state of the controller without its drives.
 ghost use Rattle.std.specs.Prelude.{◌≡◌};
-ghost use Rattle.task_file.specs.State.{fresh, reset, ended, failed};
+ghost use Rattle.task_file.specs.State.{first_read, cleared, fresh, reset, ended, failed};
 
 use super::command::{ReadMode, WriteMode};
 use super::failure::Failure;
@@ -13,6 +13,19 @@ pub struct ReadJob {
     pub mode: ReadMode,
     pub attempts: u8,
     pub previous: Option<u32>,
+}
+
+impl ReadJob {
+    // A read before its first attempt at a sector.
+    pub(super) fn first(mode: ReadMode) -> ReadJob
+        ensures { result ≡ first_read mode }
+    {
+        ReadJob {
+            mode,
+            attempts: 0,
+            previous: None,
+        }
+    }
 }
 
 // A write under way: the attempts made at its sector so far.
@@ -72,40 +85,33 @@ impl State {
         ensures { result ≡ fresh }
     {
         State {
-            registers: Registers {
-                count: 0,
-                number: 0,
-                low: 0,
-                high: 0,
-                sdh: 0,
-            },
+            registers: Registers::default(),
             failure: None,
             corrected: false,
             note: false,
             intrq: false,
             phase: Phase::Busy(Job::Test),
-            buffer: SectorBuffer {
-                bytes: [0; 1024],
-                check: [0; 4],
-            },
+            buffer: SectorBuffer::zeroed(),
         }
+    }
+
+    // Failure, flags and line are cleared, and what was moving is dropped; only the buffer stays, beside these registers.
+    pub(super) fn clear(&mut self, registers: Registers)
+        ensures { self.new ≡ cleared registers self.old.buffer }
+    {
+        self.registers = registers;
+        self.failure = None;
+        self.corrected = false;
+        self.note = false;
+        self.intrq = false;
+        self.phase = Phase::Rest;
     }
 
     // Registers, failure, flags and line are cleared, and Test begins; only the buffer stays.
     pub fn reset(&mut self)
         ensures { self.new ≡ reset self.old }
     {
-        self.registers = Registers {
-            count: 0,
-            number: 0,
-            low: 0,
-            high: 0,
-            sdh: 0,
-        };
-        self.failure = None;
-        self.corrected = false;
-        self.note = false;
-        self.intrq = false;
+        self.clear(Registers::default());
         self.phase = Phase::Busy(Job::Test);
     }
 

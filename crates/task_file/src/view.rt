@@ -1,12 +1,13 @@
 // What the controller sees of the selected drive, and the commands that are aborted for it.
-ghost use Rattle.std.specs.Prelude.{◌≡◌};
-ghost use Rattle.task_file.specs.Aborting.{no_drive, is_unusable, unfit_for_floppy, refuses_format, is_hindered, aborts, guards};
+ghost use Rattle.std.specs.Prelude.{◌≡◌, Some};
+ghost use Rattle.task_file.specs.Aborting.{is_unusable, unfit_for_floppy, refuses_format, is_hindered, aborts, guards};
 
 use super::command::Command;
 use super::registers::Registers;
 use check_code::CheckMode;
+use drive::MOST_SECTORS;
 
-// The selected drive, as far as commands and the status depend on it.
+// The selected drive, as far as commands and the status depend on it. Each field is asked alone, the measures too.
 #[derive(Clone, Copy)]
 pub struct DriveView {
     pub floppy: bool,
@@ -19,22 +20,7 @@ pub struct DriveView {
 }
 
 impl DriveView {
-    // What is seen where no drive is selected.
-    pub fn none() -> DriveView
-        ensures { result ≡ no_drive }
-    {
-        DriveView {
-            floppy: false,
-            head: 0,
-            ready: false,
-            protected: false,
-            cylinders: 0,
-            heads: 0,
-            capacity: 0,
-        }
-    }
-
-    // No ready drive, or a protected Winchester.
+    // Not ready, or a protected Winchester.
     fn is_unusable(self) -> bool
         ensures { result ≡ is_unusable self }
     {
@@ -45,49 +31,57 @@ impl DriveView {
     fn is_unfit(self, command: Command, mode: CheckMode) -> bool
         ensures { result ≡ unfit_for_floppy command mode self }
     {
-        let ecc = match mode {
-            CheckMode::Ecc => true,
-            CheckMode::Crc => false,
-        };
-        let long = command.is_long();
-        self.floppy && (ecc || long)
+        self.floppy && (mode == CheckMode::Ecc || command.is_long())
     }
 
-    // The head, the count or the room on a track would make the drive refuse a format.
+    // The head, the count or the room on a track would make the drive refuse a format. The drive asks again when it formats,
+    // and tells which; here one answer is enough, and a count is never 0.
     fn refuses_format(self, registers: Registers) -> bool
         ensures { result ≡ refuses_format registers self }
     {
-        let count = registers.sectors();
-        let bytes = registers.size().bytes();
-        self.head >= self.heads || count > 64 || count as usize * bytes > self.capacity as usize
+        let count = registers.sectors() as usize;
+        let bytes = count * registers.size().bytes();
+        self.head >= self.heads || count > MOST_SECTORS || bytes > self.capacity as usize
     }
 
     // A Write or Format on a protected floppy.
     pub fn guards(self, command: Command) -> bool
         ensures { result ≡ guards command self }
     {
-        let writes = command.writes();
-        writes && self.floppy && self.protected
+        command.writes() && self.floppy && self.protected
     }
 
-    // What can stand against any command but Test.
+    // What can stand against any command but Test. The command and the registers came from the host one after the other, and
+    // are no one thing.
     fn hinders(self, command: Command, registers: Registers) -> bool
         ensures { result ≡ is_hindered command registers self }
     {
-        let unusable = self.is_unusable();
-        let unfit = self.is_unfit(command, registers.mode());
-        let guarded = self.guards(command);
-        unusable || unfit || registers.cylinder() >= self.cylinders || guarded
+        self.is_unusable()
+            || self.is_unfit(command, registers.mode())
+            || registers.cylinder() >= self.cylinders
+            || self.guards(command)
     }
 
-    // Whether a command is aborted.
+    // Whether a command for this drive is aborted.
+    #[tactic(auto, unfolding(crate::specs::Aborting::aborts))]
     pub fn aborts(self, command: Command, registers: Registers) -> bool
-        ensures { result ≡ aborts command registers self }
+        ensures { result ≡ aborts command registers (Some self) }
     {
         match command {
             Command::Test => false,
             Command::Format => self.hinders(command, registers) || self.refuses_format(registers),
-            other => self.hinders(other, registers),
+            _ => self.hinders(command, registers),
         }
+    }
+}
+
+// Whether a command is aborted: where no drive is selected, each but Test is.
+#[tactic(auto, unfolding(crate::specs::Aborting::aborts))]
+pub fn aborts(view: Option<DriveView>, command: Command, registers: Registers) -> bool
+    ensures { result ≡ aborts command registers view }
+{
+    match view {
+        Some(drive) => drive.aborts(command, registers),
+        None => !matches!(command, Command::Test),
     }
 }

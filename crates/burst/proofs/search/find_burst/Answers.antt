@@ -13,9 +13,9 @@ search-init c =
     let d = c.args.difference in
     let r = c.taken_back-register.result in (
       refl,
-      c.taken_back-register.ensures.fits,
+      c.taken_back-register.type_inv,
       λ size e. (
-        back_first size d r c.taken_back-register.ensures.fits (ap (λ m. steps ecc_code (m - 5) r) e ∙ c.taken_back-register.ensures.is),
+        back_first size d r (ap (λ m. steps ecc_code (m - 5) r) e ∙ c.taken_back-register.ensures),
         before_none size d,
       ),
     )
@@ -32,7 +32,7 @@ loop-half-preserved c =
       l.invariant.0,
       λ size e.
           let inside : s.first < bits_of size = omega (arith, c.search-test.true) in
-          passed_more size d s.first s.register inside small (s.invariant.2 size e).0 l.half c.loop-half-test.true (l.invariant.1 size e)
+          passed_more size d s.first s.register inside small s.invariant.1 (s.invariant.2 size e).0 l.half c.loop-half-test.true (l.invariant.1 size e)
           (λ same ends.
           elim c.else-register-mirrored.branch [
             | else-register-mirrored-via-then-register-mirrored+else-ends_within w ↦
@@ -50,10 +50,10 @@ search-preserved c =
     let l = c.loop-half in
     let done : l.half ≡ 16 = omega (arith, c.loop-half-test.false) in (
       l.invariant.0,
-      c.shift-register.ensures.fits,
+      c.shift-register.type_inv,
       λ size e.
           let inside : s.first < bits_of size = omega (arith, c.search-test.true) in (
-            back_more size d s.first s.register inside (s.invariant.2 size e).0 c.shift-register.result c.shift-register.ensures.fits c.shift-register.ensures.is,
+            back_more size d s.first s.register inside (s.invariant.2 size e).0 c.shift-register.result c.shift-register.ensures,
             before_more size d s.first (s.invariant.2 size e).1 (subst (λ h. Passed size d s.first h) done (l.invariant.1 size e)),
           ),
     )
@@ -83,6 +83,6 @@ returns-then-ends_within c =
     let ends : 2 * l.half + 1 < 2 ^ (bits_of size - s.first) =
     subst (λ m. 2 * l.half + 1 < 2 ^ (m - s.first)) (sym e)
     (ltb-true (2 * l.half + 1) (2 ^ (8 * c.bytes.result + 32 - s.first)) (sym c.ends_within.ensures ∙ c.if-ends_within.true)) in
-    let is = found size d s.first s.register inside small (s.invariant.2 size e).0 l.half c.loop-half-test.true (l.invariant.1 size e) (s.invariant.2 size e).1
+    let is = found size d s.first s.register inside small s.invariant.1 (s.invariant.2 size e).0 l.half c.loop-half-test.true (l.invariant.1 size e) (s.invariant.2 size e).1
     (c.if-register-mirrored.true ∙ c.mirrored.ensures) ends in
     record { first = sym is; only = fits size d (burst_at size d s.first l.half) is }

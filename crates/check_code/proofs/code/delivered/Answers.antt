@@ -2,9 +2,9 @@
 use Rattle.std.proofs.Common.{◌≡◌, ℕ, ◌+◌, ◌-◌, ◌/◌, ◌^◌, sym, ap, ◌∙◌, ap₂, arith, rules}
 use Rattle.sector.specs.Bits.{bit_at}
 use Rattle.check_code.specs.Code.{Code, width, append, fold}
-use Rattle.check_code.specs.Fold.{digits_front}
-use Rattle.check_code.specs.Bytes.{bit_at_lt}
-use Rattle.check_code.specs.LawsLemmas.{four_held}
+use Rattle.check_code.proofs.Fold.{digits_front}
+use Rattle.check_code.proofs.Bytes.{bit_at_lt}
+use Rattle.check_code.proofs.Laws.{four_held}
 use Rattle.check_code.proofs.code.delivered.Goals as goal
 
 pub returns : goal.returns
@@ -16,4 +16,4 @@ returns g c =
     let all : 32 ≡ width code + k = omega arith in
     let held : c.from_be_bytes.result ≡ fold append 0 (bit_at check) (width code + k) =
     c.from_be_bytes.ensures ∙ sym (four_held check (search rules) (search rules) (search rules) (search rules)) ∙ ap (fold append 0 (bit_at check)) all in
-    ap₂ (λ x w. x / 2 ^ (32 - w)) held c.width.ensures ∙ digits_front (bit_at check) (bit_at_lt check) (width code) k
+    ap₂ (λ x w. x / 2 ^ (32 - w)) held (c.WIDTH.ensures ∙ g.met.C.CheckCode.width_is) ∙ digits_front (bit_at check) (bit_at_lt check) (width code) k

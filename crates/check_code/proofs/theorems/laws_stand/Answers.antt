@@ -1,7 +1,11 @@
--- Every code owes its laws.
+-- Every sound code has the laws.
+use Rattle.check_code.specs.Code.{Code}
+use Rattle.check_code.proofs.Laws.{whole, inverting, combining}
+use Rattle.check_code.proofs.Window.{burst_shows}
 use Rattle.check_code.proofs.theorems.laws_stand.Goals as goal
 
 pub returns : goal.returns
 returns g c =
-    let laws = g.met.C.CheckCode in
-    record { whole = laws.whole; inverting = laws.inverting; combining = laws.combining; shows = laws.shows }
+    let code : Code = g.C.CheckCode.code in
+    let sound = g.met.C.CheckCode.sound in
+    record { whole = whole code sound; inverting = inverting code sound; combining = combining code; shows = burst_shows code sound }

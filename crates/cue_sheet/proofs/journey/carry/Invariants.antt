@@ -1,7 +1,7 @@
--- The script so far is the front of the sheet, and the bursts so far are those laid.
-use Rattle.std.proofs.Common.{◌≡◌, ◌*◌, take, vec_items}
-use Rattle.cue_sheet.specs.Journey.{laid}
+-- The chunks so far have gone their way.
+use Rattle.std.proofs.Common.{vec_items}
+use Rattle.cue_sheet.proofs.Sectors.{Going}
 use Rattle.cue_sheet.proofs.journey.carry.Given as goal
 
 abbrev pub invariant-loop-sector : goal.invariant-loop-sector
-invariant-loop-sector l = (vec_items l.script ≡ take (l.sector * 512) l.sheet) × (vec_items l.bursts ≡ laid l.sector)
+invariant-loop-sector l = Going l.sheet (vec_items l.script) (vec_items l.bursts) l.sector-iterator

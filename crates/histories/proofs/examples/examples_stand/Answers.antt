@@ -1,5 +1,5 @@
 -- The worked examples, computed from the definitions.
-use Rattle.std.proofs.Common.{refl}
+use Rattle.std.proofs.Common.{rules}
 use Rattle.burst.specs.Search.{first_below, first_burst}
 use Rattle.check_code.proofs.Examples.{examples}
 use Rattle.drive.specs.Calls.{stepped_in, stepped_out, read_answer, handed_over, after_read, format_answer, after_format}
@@ -15,19 +15,4 @@ use Rattle.histories.proofs.examples.examples_stand.Goals as goal
 
 pub returns : goal.returns
 unfolding runs command_of aborts begun drawn put read_judged read_answer_of state_after_read write_answer_of state_after_write worked stepped_in stepped_out read_answer handed_over after_read format_answer after_format first_below first_burst
-returns c =
-    record {
-      codes = examples;
-      new_controller = λ w f. refl;
-      after_one_turn = λ w f r p. rw (r, p);
-      no_drive_selected = λ w f. refl;
-      restore_busy = refl;
-      restore_ends = refl;
-      count_goes_down = refl;
-      number_goes_up = refl;
-      eight_no_ids = refl;
-      nine_no_ids = refl;
-      corrected_on_the_third = refl;
-      format_runs = refl;
-      format_aborted = refl;
-    }
+returns c = search (rules, examples)

@@ -1,51 +1,33 @@
 -- Each turn of the loop is one turn, and after the last none is left.
-use Rattle.std.proofs.Common.{◌≡◌, ℕ, ◌+◌, ◌≤◌, sym, refl, ap, ◌∙◌, subst, arith}
+use Rattle.std.proofs.Common.{◌≡◌, ℕ, ◌+◌, sym, ◌∙◌, arith}
 use Rattle.controller.specs.Model.{model_of}
-use Rattle.histories.specs.Working.{turns}
-use Rattle.histories.proofs.Orders.{Within, left-most, Still, still_more, still_ends, turns_more}
+use Rattle.histories.proofs.Orders.{Within, left_most, still_more, still_ends, turns_none, turns_more, order_reached}
 use Rattle.histories.proofs.finishing.finish.Goals as goal
 
 pub loop-made-init : goal.loop-made-init
-unfolding turns
 loop-made-init g c =
     let b = model_of g.W.Drive.meaning g.F.Drive.meaning c.args.controller.now in
-    let w = g.met.W.Drive.bounded c.args.controller.now.winchester in
-    let f = g.met.F.Drive.bounded c.args.controller.now.floppy in
+    let winchester = g.met.W.Drive.bounded c.args.controller.now.winchester in
+    let floppy = g.met.F.Drive.bounded c.args.controller.now.floppy in
     let most : ℕ = c.max-most.result in
-    let mw : g.W.Drive.most.cylinders ≤ most = omega (arith, c.max-most.ensures, c.cylinder_limit.ensures, c.cylinder_limit-2.ensures) in
-    let mf : g.F.Drive.most.cylinders ≤ most = omega (arith, c.max-most.ensures, c.cylinder_limit.ensures, c.cylinder_limit-2.ensures) in
     let within : Within most b =
     record {
-      winchester_stands = omega (arith, w.inside, w.few_cylinders);
-      winchester_ends = omega (arith, w.few_cylinders);
-      floppy_stands = omega (arith, f.inside, f.few_cylinders);
-      floppy_ends = omega (arith, f.few_cylinders);
+      winchester_stands = omega (arith, winchester);
+      winchester_ends = omega (arith, winchester);
+      floppy_stands = omega (arith, floppy);
+      floppy_ends = omega (arith, floppy);
     } in
-    (refl, λ o. (o, omega (arith, left-most most b within o)))
+    record { made = sym (turns_none b); still = λ order. record { order = order; few = omega (arith, left_most most b within order) } }
 
 pub loop-made-preserved : goal.loop-made-preserved
 loop-made-preserved g c =
-    let busy = sym c.is_busy.ensures ∙ c.if-not-is_busy.false in (
-      turns_more _ _ _ c.loop-made.made c.loop-made.invariant.0 c.turn.ensures,
-      still_more _ _ _ c.loop-made.made _ c.loop-made.invariant.1 busy c.turn.ensures,
-    )
-
-pub returns-then-not-is_busy : goal.returns-then-not-is_busy
-returns-then-not-is_busy g c =
     record {
-      made = c.loop-made.invariant.0;
-      few = omega (arith, c.loop-made.auto.made-end, c.max-most.ensures, c.cylinder_limit.ensures, c.cylinder_limit-2.ensures);
-      rests = λ reached. sym c.is_busy.ensures ∙ c.if-not-is_busy.true;
+      made = rw (turns_more, ← c.loop-made.invariant.made) c.turn.ensures;
+      still = λ order. rw c.turn.ensures (still_more _ _ _ (sym c.is_busy.ensures ∙ c.if-not-is_busy.false) (c.loop-made.invariant.still order));
     }
 
-pub returns : goal.returns
-returns g c =
-    let b = model_of g.W.Drive.meaning g.F.Drive.meaning c.args.controller.now in
-    let e = model_of g.W.Drive.meaning g.F.Drive.meaning c.loop-made.controller in
+pub returns-clause-rests : goal.returns-clause-rests
+returns-clause-rests g c reached =
     let most : ℕ = c.max-most.result + 8 in
     let all : c.loop-made.made ≡ most = omega (arith, c.loop-made.auto.made-end, c.loop-made-test.false) in
-    record {
-      made = c.loop-made.invariant.0 ∙ ap (λ k. turns k b) all;
-      few = omega (arith, c.max-most.ensures, c.cylinder_limit.ensures, c.cylinder_limit-2.ensures);
-      rests = still_ends b e most (subst (λ k. Still b e k most) all c.loop-made.invariant.1);
-    }
+    still_ends _ most (rw all at (c.loop-made.invariant.still (order_reached _ reached)))

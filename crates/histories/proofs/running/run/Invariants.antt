@@ -7,7 +7,9 @@ use Rattle.histories.proofs.running.run.Given as goal
 abbrev pub invariant-loop-call : goal.invariant-loop-call
 invariant-loop-call g l =
     let b = model_of g.W.Drive.meaning g.F.Drive.meaning l.initial.controller in
-    (model_of g.W.Drive.meaning g.F.Drive.meaning l.controller ≡ runs b (take l.call-index l.calls))
-    × (vec_items l.answers ≡ answers b (take l.call-index l.calls))
-    × (vec_len l.answers ≡ l.call-index)
-    × (length l.calls ≤ vec_capacity l.answers)
+    record {
+      after : model_of g.W.Drive.meaning g.F.Drive.meaning l.controller ≡ runs b (take l.call-index l.calls);
+      all : vec_items l.answers ≡ answers b (take l.call-index l.calls);
+      as_many : vec_len l.answers ≡ l.call-index;
+      room : length l.calls ≤ vec_capacity l.answers;
+    }

@@ -3,12 +3,8 @@ use Rattle.std.proofs.Common.{ℕ, replicate, ap, ◌∙◌, rules}
 use Rattle.image.proofs.Formats.{format_is}
 use Rattle.image.proofs.record.format_track.Goals as goal
 
-pub returns : goal.returns
-returns c =
-    record {
-      after =
-          format_is c.args.ids.now c.args.size c.args.check c.args.track.now c.requires.0 (search rules) c.requires.1
-          c.bytes.result _ _ _ _ c.bytes.ensures c.write_head.ensures c.write_pairs.ensures c.write_checks.ensures
-          (c.fill.ensures.after (λ y e. e) ∙ ap (λ (n : ℕ). replicate n 0) (search rules));
-      bytes = λ i. (c.type_inv.track i).fits;
-    }
+pub returns-clause-after : goal.returns-clause-after
+returns-clause-after c =
+    format_is c.args.ids.now c.args.size c.args.check c.args.track.now c.requires.0 (search rules) c.requires.1
+    c.bytes.result _ _ _ _ c.bytes.ensures c.write_head.ensures c.write_pairs.ensures c.write_checks.ensures
+    (c.fill.ensures.after (λ y e. e) ∙ ap (λ (n : ℕ). replicate n 0) (search rules))

@@ -1,9 +1,9 @@
 -- A drive of this make has no more cylinders than turns are made.
-use Rattle.std.proofs.Common.{◌≡◌, ℕ, ◌<◌, ◌≤◌, true, cond, ltb, sym, ap, ◌∙◌, arith}
+use Rattle.std.proofs.Common.{◌≡◌, ℕ, ◌<◌, ◌≤◌, true, cond, ltb, Err, sym, ap, ◌∙◌, arith}
 use Rattle.std.proofs.lemmas.Bool.{cond-true, lt-ltb}
 use Rattle.drive.specs.Model.{DriveModel, at_cylinder}
-use Rattle.records.specs.declared.moves.Seeking.TheVariants.{NotReady, NoCylinder, Found}
-use Rattle.records.specs.Seeks.{nearer}
+use Rattle.drive.specs.Calls.{done, nearer}
+use Rattle.records.specs.declared.moves.SeekError.TheVariants.{NotReady, NoCylinder}
 use Rattle.records.proofs.Steps.{closer_none, closer_all, nearer_more}
 use Rattle.records.proofs.moves.seek.Goals as goal
 
@@ -28,11 +28,11 @@ returns g c =
     let ready : d.ready ≡ true = sym c.is_ready.ensures ∙ c.if-not-is_ready.false in
     let inside : to < d.cylinders = omega (arith, c.if-cylinder-cylinders.false, c.cylinders.ensures) in
     let bounds = g.met.D.Drive.bounded c.args.drive.now in
-    let few : d.cylinders ≤ g.D.Drive.most.cylinders = bounds.few_cylinders in
+    let few : d.cylinders ≤ g.D.Drive.MOST_CYLINDERS = bounds.few_cylinders in
     let here : d.cylinder < d.cylinders = bounds.inside in
-    let turns : l._i ≡ g.D.Drive.most.cylinders = omega (arith, c.loop-i-test.false, c.cylinder_limit-i-end.ensures) in
+    let turns : l._i ≡ g.D.Drive.MOST_CYLINDERS = omega (arith, c.loop-i-test.false) in
     record {
-      answer = sym (cond-true d.ready (cond (ltb to d.cylinders) Found NoCylinder) NotReady ready ∙ cond-true (ltb to d.cylinders) Found NoCylinder (lt-ltb to d.cylinders inside));
+      answer = sym (cond-true d.ready (cond (ltb to d.cylinders) done (Err NoCylinder)) (Err NotReady) ready ∙ cond-true (ltb to d.cylinders) done (Err NoCylinder) (lt-ltb to d.cylinders inside));
       after =
           l.invariant ∙ ap (at_cylinder d) (closer_all d.cylinder to l._i (omega arith) (omega arith))
           ∙ sym (cond-true d.ready (cond (ltb to d.cylinders) (at_cylinder d to) d) d ready

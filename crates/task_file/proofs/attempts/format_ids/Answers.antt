@@ -1,10 +1,9 @@
--- Each turn makes one more entry.
-use Rattle.std.proofs.Common.{◌<◌, length, arith, length-set}
-use Rattle.task_file.proofs.Ids.{ids_more}
+-- Each call makes the sector of its pair.
+use Rattle.std.proofs.Common.{rules, refl, arith}
+use Rattle.task_file.proofs.Ids.{ids_made}
 use Rattle.task_file.proofs.attempts.format_ids.Goals as goal
 
-pub loop-i-preserved : goal.loop-i-preserved
-loop-i-preserved c =
-    let l = c.loop-i in
-    let here : l.i < length l.ids = omega (arith, l.invariant.0) in
-    (rw length-set l.invariant.0, ids_more c.args.bytes.now l.ids l.i here l.invariant.1)
+pub returns : goal.returns
+returns c n le =
+    let made = c.from_fn.ensures.items in
+    ids_made _ c.args.bytes.now _ (λ i id f k. search rules) c.from_fn.result 64 0 made.each (omega (arith, made.long)) refl n (omega arith) (omega arith)

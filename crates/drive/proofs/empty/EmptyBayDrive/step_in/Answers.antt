@@ -1,8 +1,0 @@
--- A bay without a drive is never ready.
-use Rattle.std.proofs.Common.{[], refl}
-use Rattle.drive.specs.Empty.{empty_model}
-use Rattle.drive.proofs.Unready.{steps_not, stays_in}
-use Rattle.drive.proofs.empty.EmptyBayDrive.step_in.Goals as goal
-
-pub returns : goal.returns
-returns c = record { answer = steps_not (empty_model []) refl; after = stays_in (empty_model []) refl }

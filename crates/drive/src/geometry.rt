@@ -1,0 +1,9 @@
+// The measures of a drive.
+
+// How many cylinders and heads a drive has, and how many bytes of sectors each track has room for.
+#[derive(Clone, Copy, PartialEq, Eq, Debug)]
+pub struct Geometry {
+    pub cylinders: u16,
+    pub heads: u8,
+    pub capacity: u32,
+}

@@ -1,0 +1,30 @@
+// Images of either make.
+ghost use Rattle.std.specs.Prelude.{◌≡◌, ◌+◌, ◌*◌, ◌<◌, ◌≤◌, length};
+ghost use Rattle.drive.specs.Bounds.{Bytes};
+
+use super::make::{Floppy, Make, Winchester};
+use drive::Geometry;
+use std::marker::PhantomData;
+
+mod calls;
+mod opening;
+
+// An image of a make over sector memory that it owns: the cylinder under its head, and a record for each track.
+#[derive(Drop)]
+pub struct Image<M: Make> {
+    geometry: Geometry,
+    protected: bool,
+    cylinder: u16,
+    memory: Vec<u8>,
+    make: PhantomData<M>,
+    ghost few: { (geometry.cylinders ≤ M.MOST_CYLINDERS) × (geometry.heads ≤ M.MOST_HEADS) },
+    ghost inside: { cylinder < geometry.cylinders },
+    ghost headed: { 1 ≤ geometry.heads },
+    ghost small: { geometry.capacity ≤ 65536 },
+    ghost whole: { length memory.items ≡ (geometry.cylinders * geometry.heads) * (386 + geometry.capacity) },
+    ghost bytes: { Bytes memory.items },
+}
+
+pub type WinchesterImage = Image<Winchester>;
+
+pub type FloppyImage = Image<Floppy>;

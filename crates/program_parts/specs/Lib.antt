@@ -1,0 +1,3 @@
+pub mod Measures
+pub mod Winchester
+pub mod Laying
