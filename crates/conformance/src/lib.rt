@@ -1,7 +1,13 @@
-// Tests in bulk: published values, and cases at the edges. It has no code of its own.
+// The controller against its rules, as tables: scripts that are played on it. It has no code of its own.
 #![tactic(auto)]
 
 #[cfg(test)]
-mod codes;
+mod bench;
 #[cfg(test)]
-mod sheets;
+mod controller_access;
+#[cfg(test)]
+mod controller_commands;
+#[cfg(test)]
+mod controller_histories;
+#[cfg(test)]
+mod controller_transfers;

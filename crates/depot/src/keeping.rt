@@ -1,60 +1,105 @@
-// Keeping a sheet on a drive: tracks formatted, records written.
-use anyhow::anyhow;
-use check_code::{Ecc, check_bytes};
+// At the depot: the drive is restored and formatted, and the sheet is written to it.
+use super::console::Console;
+use super::outcome::{Outcome, Tally};
+use super::registers::Order;
 use cue_sheet::loaded;
-use drive::{Drive, MOST_SECTORS, Place, SectorId};
-use records::{Grid, RECORD, seek, write_record};
-use sector::SizeCode;
-use std::alloc::{AllocError, Global};
+use drive::{Drive, Place};
+use records::RECORD;
+use std::io;
 
-// Good sectors, numbered from 0, at most 64.
-fn numbered(heap: Global, sectors: u8) -> Result<Vec<SectorId>, AllocError> {
-    let mut ids = Vec::new(heap);
-    for number in 0..sectors.min(MOST_SECTORS as u8) {
-        ids.push(SectorId { number, bad: false })?;
-    }
-    Ok(ids)
-}
-
-// Formats each track of one cylinder; tells how many were.
-fn format_cylinder<D: Drive>(drive: &mut D, ids: &[SectorId]) -> u32 {
-    let check = check_bytes::<Ecc>(&[0; RECORD]);
-    let mut tracks = 0u32;
-    for head in 0..drive.heads() {
-        if drive.format(head, ids, SizeCode::Bytes512, check).is_ok() {
-            tracks = tracks.saturating_add(1);
-        }
-    }
-    tracks
-}
-
-// Formats every track of the drive with sectors of 512 bytes.
-pub fn prepare<D: Drive>(rt: &HostRuntime, drive: &mut D, grid: Grid) -> anyhow::Result<()> {
-    let ids = numbered(rt.alloc(), grid.sectors)?;
-    let sectors = ids.len();
-    let mut tracks = 0u32;
-    for cylinder in 0..grid.cylinders {
-        if seek(drive, cylinder).is_ok() {
-            tracks = tracks.saturating_add(format_cylinder(drive, &ids));
-        }
-    }
-    println!(rt; "formatted: {tracks} tracks of {sectors} sectors, 512 bytes each, under ECC")?;
+// Sends the head to cylinder 0, at the depot or on site.
+pub fn restore<W: Drive, F: Drive>(
+    rt: &HostRuntime,
+    console: &mut Console<W, F>,
+    here: &str,
+) -> anyhow::Result<()> {
+    let outcome = console
+        .restore()?
+        .required(rt.alloc(), "the head could not be restored")?;
+    let turns = outcome.turns;
+    let order = Order::Restore;
+    println!(rt; "{here}: {order}, turns: {turns}")?;
     Ok(())
 }
 
-// Writes a sheet to the drive, a record at each of these places.
-pub fn store<D: Drive>(
+// Formats the track of a place with as many records as tracks have room for.
+fn format_track<W: Drive, F: Drive>(
     rt: &HostRuntime,
-    drive: &mut D,
+    console: &mut Console<W, F>,
+    place: Place,
+) -> anyhow::Result<Outcome> {
+    let sectors = console.grid().sectors;
+    console
+        .format_track(place, sectors)?
+        .required(rt.alloc(), "a track could not be formatted")
+}
+
+// Formats every track, if tracks have room for a record.
+fn format_tracks<W: Drive, F: Drive>(
+    rt: &HostRuntime,
+    console: &mut Console<W, F>,
+) -> anyhow::Result<()> {
+    let grid = console.grid();
+    let heads = if grid.sectors == 0 { 0 } else { grid.heads };
+    let mut tracks = 0usize;
+    let mut tally = Tally::default();
+    for cylinder in 0..grid.cylinders {
+        for head in 0..heads {
+            let place = Place {
+                cylinder,
+                head,
+                number: 0,
+            };
+            tally.count(format_track(rt, console, place)?);
+            tracks = tracks.saturating_add(1);
+        }
+    }
+    let order = Order::Format;
+    let sectors = grid.sectors;
+    let turns = tally.turns;
+    println!(rt; "depot: {order}, tracks: {tracks}, sectors on each: {sectors}, turns: {turns}")?;
+    Ok(())
+}
+
+// Waits for the controller's test, restores the head and formats the drive.
+pub fn prepare<W: Drive, F: Drive>(
+    rt: &HostRuntime,
+    console: &mut Console<W, F>,
+) -> anyhow::Result<()> {
+    let outcome = console.test()?.required(rt.alloc(), "the test failed")?;
+    let turns = outcome.turns;
+    println!(rt; "depot: Test at power-on, turns: {turns}")?;
+    restore(rt, console, "depot")?;
+    format_tracks(rt, console)
+}
+
+// Tells of a record that was not written at once.
+fn print_writing(rt: &HostRuntime, index: usize, outcome: Outcome) -> io::Result<()> {
+    let attempts = outcome.attempts;
+    if attempts == 1 {
+        return Ok(());
+    }
+    println!(rt; "depot: record {index:>3} written at attempt {attempts}")
+}
+
+// Writes a sheet, record by record.
+pub fn store<W: Drive, F: Drive>(
+    rt: &HostRuntime,
+    console: &mut Console<W, F>,
     places: &[Place],
     sheet: &[u8],
 ) -> anyhow::Result<()> {
-    for (place, part) in places.iter().zip(sheet.chunks(RECORD)) {
-        write_record(drive, *place, &loaded(part)).map_err(|_error| anyhow!(
-            "a record could not be written"
-        ))?;
+    let mut tally = Tally::default();
+    for (index, (place, part)) in places.iter().zip(sheet.chunks(RECORD)).enumerate() {
+        let outcome = console
+            .write_record(*place, &loaded(part))?
+            .required(rt.alloc(), "a record could not be written")?;
+        print_writing(rt, index, outcome)?;
+        tally.count(outcome);
     }
     let records = places.len();
-    println!(rt; "written: {records} records")?;
+    let order = Order::Write;
+    let Tally { turns, retries, .. } = tally;
+    println!(rt; "depot: {order}, records: {records}, retries: {retries}, turns: {turns}")?;
     Ok(())
 }

@@ -1,31 +1,58 @@
-// The depot's program: reads a cue sheet from standard input, keeps it on a Winchester image, lays faults over the drive,
-// reads the firing script back with retries, and says what it did and whether the script matches the sheet line by line.
+// The depot's program: reads a cue sheet from standard input and writes it to a Winchester image as a console does, through
+// the eight registers of one controller. An earlier show leaves a read half done. Then the firing script is read back
+// through the same registers, under faults laid over the drive, and compared with the sheet line by line.
 //
 // Three arguments, if given, are the image's cylinders, heads and track capacity.
 #![tactic(auto)]
 
+mod console;
 mod faults;
 mod fetching;
 mod keeping;
+mod outcome;
+mod registers;
 
+use console::Console;
+use controller::Controller;
+use drive::{Bay, Geometry};
 use fault_table::FaultTable;
 use faults::FAULTS;
-use fetching::fetch;
-use keeping::{prepare, store};
+use fetching::{fetch, leave_half};
+use image::{FloppyImage, blank_memory, fitted};
+use keeping::{prepare, restore, store};
 use program_parts::{asked_for, lay, print_comparison, read_sheet, winchester};
 use records::{Grid, RECORD};
+use std::alloc::{AllocError, Global};
 
+// The floppy's measures.
+const FLOPPY: Geometry = Geometry {
+    cylinders: 40,
+    heads: 2,
+    capacity: 4096,
+};
+
+// A blank floppy in its bay.
+fn floppy(heap: Global) -> Result<Bay<FloppyImage>, AllocError> {
+    let memory = blank_memory(heap, FLOPPY)?;
+    Ok(fitted(FloppyImage::new(FLOPPY, false, memory)))
+}
+
+// Takes the sheet to the drive and the script from it, with one controller from first to last.
 fn run(rt: &HostRuntime) -> anyhow::Result<()> {
+    let geometry = asked_for(rt)?;
     let sheet = read_sheet(rt)?;
-    let geometry = asked_for(rt, "depot")?;
-    let mut bay = winchester(rt, geometry)?;
+    let bay = winchester(rt, geometry)?;
     let grid = Grid::from(geometry);
-    prepare(rt, &mut bay, grid)?;
     let places = grid.places(rt.alloc(), sheet.len().div_ceil(RECORD))?;
-    store(rt, &mut bay, &places, &sheet)?;
-    let mut table = FaultTable::over(bay);
-    lay(rt, &mut table, &places, FAULTS)?;
-    let mut script = fetch(rt, &mut table, &places)?;
+    let mut damaged = FaultTable::over(bay);
+    lay(rt, &mut damaged, &places, FAULTS)?;
+    let controller = Controller::new(damaged, floppy(rt.alloc())?);
+    let mut console = Console::new(controller, rt.alloc(), grid);
+    prepare(rt, &mut console)?;
+    store(rt, &mut console, &places, &sheet)?;
+    leave_half(rt, &mut console)?;
+    restore(rt, &mut console, "site")?;
+    let mut script = fetch(rt, &mut console, &places)?;
     script.truncate(sheet.len());
     print_comparison(rt, &sheet, &script)?;
     Ok(())

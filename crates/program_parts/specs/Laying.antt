@@ -1,4 +1,4 @@
--- The entries of a fault table once a program has laid its faults.
+-- The entries of a fault table once the program has laid its faults.
 use Rattle.std.specs.Prelude.{ℕ, ◌+◌, ◌%◌, List, [], ◌∷◌, map, slice_index_or}
 use Rattle.drive.specs.declared.place.Place.{Place}
 use Rattle.fault_table.specs.declared.entry.FaultEntry.{FaultEntry}

@@ -1,4 +1,4 @@
-// Faults that a program lays over a drive.
+// Faults that the program lays over a drive.
 ghost use Rattle.std.specs.Prelude.{◌≡◌, IfOk, map};
 ghost use Rattle.program_parts.specs.Laying.{all_added, all_laid, entry_for};
 
@@ -56,9 +56,12 @@ pub fn lay<D: Drive>(
     ensures drive { table.new.drive ≡ table.old.drive }
 {
     let mut laid = 0usize;
+    let mut wanted = 0usize;
     for (index, place) in places.iter().enumerate() {
-        laid = laid.saturating_add(lay_at(rt, table, index, *place, rows[index % 4])?);
+        let stretches = rows[index % 4];
+        laid = laid.saturating_add(lay_at(rt, table, index, *place, stretches)?);
+        wanted = wanted.saturating_add(stretches.len());
     }
-    println!(rt; "faults laid: {laid}")?;
+    println!(rt; "faults laid: {laid} of {wanted}")?;
     Ok(())
 }

@@ -1,8 +1,8 @@
-// What both programs do: the Winchester that their arguments ask for, the sheet on standard input, faults laid over the
-// drive and told of, and the script's comparison with the sheet.
+// Parts of the program: the Winchester that its arguments ask for, the sheet on standard input, faults laid over the drive
+// and told of, and the script's comparison with the sheet.
 //
 // Promised here: the measures where none are asked for, the meaning of the Winchester that is fitted, and the entries that a
-// fault table has once faults are laid. What is read and printed is tested by running the programs.
+// fault table has once faults are laid. What is read and printed is tested by running the program.
 #![tactic(auto)]
 
 mod faults;

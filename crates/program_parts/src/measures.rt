@@ -2,9 +2,12 @@
 ghost use Rattle.std.specs.Prelude.{◌≡◌, [], Ok};
 ghost use Rattle.program_parts.specs.Measures.{usual_geometry};
 
-use anyhow::anyhow;
+use anyhow::{Context, anyhow};
 use drive::Geometry;
 use std::env;
+
+// What is wrong with words that give no measures.
+const USAGE: &str = "usage: depot [CYLINDERS HEADS CAPACITY] < SHEET";
 
 // The measures that words give, which are cylinders, heads and track capacity; where there are no words, 4 cylinders of 2
 // heads with room for 8 sectors of 512 bytes a track.
@@ -18,25 +21,19 @@ pub fn geometry_of(words: &[&str]) -> anyhow::Result<Geometry>
             capacity: 4096,
         }),
         [cylinders, heads, capacity] => Ok(Geometry {
-            cylinders: cylinders.parse::<u16>()?,
-            heads: heads.parse::<u8>()?,
-            capacity: capacity.parse::<u32>()?,
+            cylinders: cylinders.parse::<u16>().context(USAGE)?,
+            heads: heads.parse::<u8>().context(USAGE)?,
+            capacity: capacity.parse::<u32>().context(USAGE)?,
         }),
-        _ => Err(anyhow!("three measures are wanted, or none")),
+        _ => Err(anyhow!(USAGE)),
     }
 }
 
-// The measures that the program's arguments give, or its usage.
-pub fn asked_for(rt: &HostRuntime, program: &str) -> anyhow::Result<Geometry> {
+// The measures that the program's arguments give.
+pub fn asked_for(rt: &HostRuntime) -> anyhow::Result<Geometry> {
     let mut args = env::args(rt)?;
     let _program = args.next();
-    let Some(cylinders) = args.next() else {
-        return geometry_of(&[]);
-    };
-    let (Some(heads), Some(capacity)) = (args.next(), args.next()) else {
-        return Err(anyhow!(format!(in rt.alloc();
-            "usage: {program} [CYLINDERS HEADS CAPACITY] < SHEET"
-        )?));
-    };
-    geometry_of(&[cylinders.as_str(), heads.as_str(), capacity.as_str()])
+    let words: Vec<String> = args.collect(rt.alloc())?;
+    let words: Vec<&str> = words.iter().map(String::as_str).collect(rt.alloc())?;
+    geometry_of(&words)
 }

@@ -1,3 +1,0 @@
-mod Steps
-mod Judging
-mod Trying

@@ -26,7 +26,7 @@ pub enum PlacesError {
     OutOfMemory,
 }
 
-// A conversion that is derived says nothing to a clause, so these and those of `sectors` are written out.
+// A conversion that is derived says nothing to a clause, so these are written out.
 impl From<AllocError> for PlacesError {
     ghost use Rattle.records.specs.declared.places.PlacesError.TheVariants.{OutOfMemory};
 

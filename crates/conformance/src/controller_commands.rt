@@ -1,5 +1,5 @@
 // Commands as they are given: those that run and those that are aborted, seeks and restores, protection, master resets.
-use super::bench::{Step, play, play_each};
+use super::bench::{Step, board, play, play_each};
 use controller::Controller;
 use drive::EmptyBay;
 use std::test::Fail;
@@ -97,7 +97,7 @@ fn abortions(rt: HostRuntime) -> Result<(), Fail> {
 const SEEKS: &[Step] = &[
     Step::Turns(1),
     Step::Status(0x50, true),
-    // to the last cylinder, to the same, and past it
+    // to C - 1, to the same again, and to C, to which it is aborted
     Step::Write(6, 0x60),
     Step::Write(4, 2),
     Step::Write(7, 0x70),
@@ -113,7 +113,7 @@ const SEEKS: &[Step] = &[
     Step::Read(1, 4),
     Step::Status(0x51, true),
     Step::Fault(Some((1, 4, 0, 0, 0, 0))),
-    // on the floppy
+    // the same on the floppy
     Step::Write(6, 0x78),
     Step::Write(4, 1),
     Step::Write(7, 0x70),
@@ -121,6 +121,11 @@ const SEEKS: &[Step] = &[
     Step::Turns(2),
     Step::Read(1, 0),
     Step::Status(0x50, true),
+    Step::Write(4, 2),
+    Step::Run(0x70, 0),
+    Step::Read(1, 4),
+    Step::Status(0x51, true),
+    Step::Fault(Some((1, 4, 0, 0, 0, 0))),
     // back again
     Step::Write(6, 0x60),
     Step::Write(5, 3),
@@ -242,6 +247,104 @@ const RESETS: &[Step] = &[
     Step::Read(1, 0),
 ];
 
+// Master resets while BUSY is on, and amid the bytes of a Format.
+const BUSY_RESETS: &[Step] = &[
+    // amid the Test of a controller that is made now, and that of a reset
+    Step::Reset,
+    Step::Reset,
+    Step::Status(0x80, false),
+    Step::Turns(1),
+    Step::Status(0x50, true),
+    Step::Write(7, 0x90),
+    Step::Reset,
+    Step::Turns(1),
+    Step::Status(0x50, true),
+    // amid a restore, whose head has come to cylinder 1
+    Step::Write(4, 2),
+    Step::Run(0x70, 3),
+    Step::Write(7, 0x10),
+    Step::Turn,
+    Step::Reset,
+    Step::Status(0x80, false),
+    Step::Turns(1),
+    Step::Status(0x50, true),
+    Step::Run(0x10, 2),
+    // amid the attempts of a read
+    Step::Write(3, 7),
+    Step::Write(6, 0x60),
+    Step::Write(7, 0x20),
+    Step::Turn,
+    Step::Turn,
+    Step::Reset,
+    Step::Status(0x80, false),
+    Step::Turns(1),
+    Step::Status(0x50, true),
+    Step::NoRead(0, 3),
+    Step::Fault(None),
+    // between the sectors of a multiple read
+    Step::Write(2, 2),
+    Step::Write(3, 255),
+    Step::Write(6, 0x60),
+    Step::Run(0x24, 1),
+    Step::Draw(0, 128),
+    Step::Reset,
+    Step::Status(0x80, false),
+    Step::Turns(1),
+    Step::Status(0x50, true),
+    Step::Registers([0, 0, 0, 0, 0]),
+    Step::NoRead(0, 3),
+    // before the attempt of a write, which is not made
+    Step::Write(3, 255),
+    Step::Write(6, 0x60),
+    Step::Write(7, 0x30),
+    Step::Give(0x77, 128),
+    Step::Reset,
+    Step::Status(0x80, false),
+    Step::Turns(1),
+    Step::Status(0x50, true),
+    Step::Write(3, 255),
+    Step::Write(6, 0x60),
+    Step::Run(0x20, 1),
+    Step::Draw(0, 128),
+    // amid the bytes of a format, and before the track is formatted
+    Step::Write(2, 1),
+    Step::Write(7, 0x50),
+    Step::Give(0, 100),
+    Step::Reset,
+    Step::Status(0x80, false),
+    Step::Turns(1),
+    Step::Status(0x50, true),
+    Step::NoWrite(0, 0, 3),
+    Step::Write(2, 1),
+    Step::Write(6, 0x60),
+    Step::Write(7, 0x50),
+    Step::Give(0, 128),
+    Step::Reset,
+    Step::Status(0x80, false),
+    Step::Turns(1),
+    Step::Status(0x50, true),
+    Step::Write(3, 255),
+    Step::Write(6, 0x60),
+    Step::Run(0x20, 1),
+    Step::Draw(0, 128),
+    // after a correction
+    Step::Write(2, 1),
+    Step::Write(4, 1),
+    Step::Write(6, 0xe0),
+    Step::Write(7, 0x50),
+    Step::Give(0, 1),
+    Step::Give(255, 1),
+    Step::Give(0, 126),
+    Step::Turns(2),
+    Step::Run(0x20, 2),
+    Step::Lines(true, true),
+    Step::Reset,
+    Step::Turns(1),
+    Step::Status(0x50, true),
+    Step::Fault(None),
+    Step::Registers([0, 0, 0, 0, 0]),
+];
+
 // Seeks, notes and resets, each on a board of its own.
 #[test]
 fn seeks_notes_and_resets(rt: HostRuntime) -> Result<(), Fail> {
@@ -252,6 +355,37 @@ fn seeks_notes_and_resets(rt: HostRuntime) -> Result<(), Fail> {
             ("seeks", false, SEEKS),
             ("notes", true, NOTES),
             ("resets", false, RESETS),
+            ("resets while busy", false, BUSY_RESETS),
         ],
     )
+}
+
+// Restore and Seek with each of the low four bits that they may have, on either drive: all of them do the same. One of them
+// is the bit of a long Read, which a floppy would refuse.
+#[test]
+fn low_bits(rt: HostRuntime) -> Result<(), Fail> {
+    let mut board = board(&rt, rt.alloc(), false)?;
+    for low in 0..16u8 {
+        let steps = [
+            Step::Turns(if low == 0 { 1 } else { 0 }),
+            Step::Write(6, 0x60),
+            Step::Write(4, 2),
+            Step::Run(0x70 + low, 3),
+            Step::Registers([0, 0, 2, 0, 0x60]),
+            Step::Status(0x50, true),
+            Step::Run(0x10 + low, 3),
+            Step::Registers([0, 0, 0, 0, 0x60]),
+            Step::Status(0x50, true),
+            Step::Write(6, 0x78),
+            Step::Write(4, 1),
+            Step::Run(0x70 + low, 2),
+            Step::Registers([0, 0, 1, 0, 0x78]),
+            Step::Status(0x50, true),
+            Step::Run(0x10 + low, 2),
+            Step::Registers([0, 0, 0, 0, 0x78]),
+            Step::Status(0x50, true),
+        ];
+        play(&rt, "low bits", &mut board, &steps);
+    }
+    Ok(())
 }

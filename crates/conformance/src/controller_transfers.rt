@@ -1,5 +1,8 @@
 // Sectors that move between host and drive: plain, long and multiple ones, failures, and commands amid them.
-use super::bench::{Step, play_each};
+use super::bench::{Step, board, play, play_each};
+use drive::Bay;
+use image::{Image, Make};
+use std::process::Abort;
 use std::test::Fail;
 
 // A write, and reads of what it wrote: INTRQ comes with DRQ, or with D = 1 once the last byte is drawn.
@@ -43,6 +46,18 @@ const SINGLE: &[Step] = &[
     Step::Draw(0, 128),
     Step::NoRead(0, 3),
     Step::Status(0x50, false),
+    Step::Write(7, 0x30),
+    Step::Give(0x3c, 128),
+    Step::Turns(1),
+    Step::Status(0x50, true),
+    Step::Run(0x28, 1),
+    Step::Lines(true, false),
+    Step::Draw(0x3c, 128),
+    Step::Status(0x50, true),
+    Step::Write(6, 0x60),
+    Step::Run(0x20, 1),
+    Step::Draw(0xa5, 128),
+    Step::Status(0x50, true),
 ];
 
 // Long reads and writes under CRC: the check bytes move too, and are stored and handed over as they are. A plain read
@@ -122,6 +137,18 @@ const LONG: &[Step] = &[
     Step::Draw(7, 132),
     Step::Turns(1),
     Step::Draw(8, 132),
+    Step::Status(0x50, true),
+    Step::Registers([0, 1, 0, 0, 0x60]),
+    Step::Write(2, 2),
+    Step::Write(3, 255),
+    Step::Run(0x2e, 1),
+    Step::Lines(true, false),
+    Step::Draw(7, 132),
+    Step::Lines(false, false),
+    Step::Turns(1),
+    Step::Draw(8, 131),
+    Step::Lines(true, false),
+    Step::Draw(8, 1),
     Step::Status(0x50, true),
     Step::Registers([0, 1, 0, 0, 0x60]),
 ];
@@ -211,6 +238,33 @@ const MULTIPLE: &[Step] = &[
     Step::Status(0x51, true),
     Step::Fault(Some((2, 0x10, 0, 0, 7, 9))),
     Step::Registers([1, 7, 0, 0, 0x60]),
+    // DMA, where INTRQ comes with the failure
+    Step::Write(2, 3),
+    Step::Write(3, 1),
+    Step::Run(0x2c, 1),
+    Step::Draw(0xa3, 128),
+    Step::Lines(false, false),
+    Step::Turns(1),
+    Step::Lines(false, true),
+    Step::Read(1, 0x80),
+    Step::Status(0x51, true),
+    Step::Fault(Some((2, 0x80, 0, 0, 2, 1))),
+    Step::Registers([2, 2, 0, 0, 0x60]),
+    Step::NoRead(0, 3),
+    // a failure at the first sector
+    Step::Write(3, 7),
+    Step::Run(0x26, 9),
+    Step::Status(0x51, true),
+    Step::Fault(Some((2, 0x10, 0, 0, 7, 9))),
+    Step::Registers([2, 7, 0, 0, 0x60]),
+    Step::NoRead(0, 3),
+    Step::Write(7, 0x36),
+    Step::Give(9, 132),
+    Step::Turns(9),
+    Step::Status(0x51, true),
+    Step::Fault(Some((2, 0x10, 0, 0, 7, 9))),
+    Step::Registers([2, 7, 0, 0, 0x60]),
+    Step::NoWrite(0, 9, 3),
     // a count of 0 is 256
     Step::Write(2, 0),
     Step::Write(3, 255),
@@ -332,6 +386,45 @@ const AMID: &[Step] = &[
     Step::Write(3, 255),
     Step::Run(0x20, 1),
     Step::Draw(0x99, 128),
+    // a Write amid a Read, and a Restore amid a multiple Read whose interrupt has come
+    Step::Run(0x20, 1),
+    Step::Draw(0x99, 100),
+    Step::Lines(true, true),
+    Step::Write(7, 0x30),
+    Step::Lines(true, false),
+    Step::NoRead(0, 3),
+    Step::Give(0x9a, 128),
+    Step::Turns(1),
+    Step::Status(0x50, true),
+    Step::Write(2, 1),
+    Step::Run(0x24, 1),
+    Step::Registers([0, 0, 0, 0, 0x60]),
+    Step::Draw(0x9a, 127),
+    Step::Lines(true, true),
+    Step::Write(7, 0x10),
+    Step::Status(0x80, false),
+    Step::Turns(1),
+    Step::Status(0x50, true),
+    Step::NoRead(0, 3),
+    // a Read amid the bytes of a Format, and a Format amid that Read, whose own bytes are dropped then
+    Step::Write(2, 1),
+    Step::Write(3, 255),
+    Step::Write(7, 0x50),
+    Step::Give(0, 127),
+    Step::Run(0x20, 1),
+    Step::Draw(0x9a, 1),
+    Step::Write(7, 0x50),
+    Step::Lines(true, false),
+    Step::Give(0, 127),
+    Step::Run(0x20, 1),
+    Step::Draw(0x9a, 128),
+    // what is aborted drops what was moving too: a Seek to C amid a Read
+    Step::Write(4, 3),
+    Step::Run(0x70, 0),
+    Step::Write(4, 0),
+    Step::Write(7, 0x30),
+    Step::Give(0x99, 128),
+    Step::Turns(1),
     // a Test amid a read that failed, and amid the bytes of a Format
     Step::Write(3, 7),
     Step::Run(0x20, 9),
@@ -372,6 +465,12 @@ const FAILURES: &[Step] = &[
     Step::Status(0x51, true),
     Step::Run(0x22, 9),
     Step::Draw(0, 132),
+    Step::Status(0x51, true),
+    Step::Run(0x2a, 9),
+    Step::Lines(true, false),
+    Step::Draw(0, 131),
+    Step::Lines(true, false),
+    Step::Draw(0, 1),
     Step::Status(0x51, true),
     Step::Write(7, 0x30),
     Step::Fault(None),
@@ -509,6 +608,128 @@ const ECC: &[Step] = &[
     Step::Draw(0, 128),
 ];
 
+// A multiple read over sector 255, which is corrected: Corrected stays on through the sectors after it, also where the last
+// of them fails, until the next command.
+const CORRECTED: &[Step] = &[
+    Step::Turns(1),
+    Step::Write(2, 3),
+    Step::Write(4, 1),
+    Step::Write(6, 0xe0),
+    Step::Write(7, 0x50),
+    Step::Give(0, 1),
+    Step::Give(255, 1),
+    Step::Give(0, 3),
+    Step::Give(1, 1),
+    Step::Give(0, 122),
+    Step::Turns(2),
+    Step::Status(0x50, true),
+    Step::Write(2, 4),
+    Step::Write(3, 255),
+    Step::Run(0x24, 2),
+    Step::Status(0x5c, false),
+    Step::Registers([3, 0, 1, 0, 0xe0]),
+    Step::Draw(0, 128),
+    Step::Turns(1),
+    Step::Status(0x5c, false),
+    Step::Draw(0, 128),
+    Step::Turns(1),
+    Step::Status(0x5c, false),
+    Step::Draw(0, 128),
+    Step::Turns(9),
+    Step::Read(1, 0x10),
+    Step::Status(0x55, true),
+    Step::Fault(Some((2, 0x10, 1, 0, 2, 9))),
+    Step::Registers([1, 2, 1, 0, 0xe0]),
+    Step::Write(2, 2),
+    Step::Write(3, 255),
+    Step::Run(0x24, 1),
+    Step::Status(0x58, false),
+    Step::Draw(0, 128),
+    Step::Turns(1),
+    Step::Draw(0, 128),
+    Step::Status(0x50, true),
+    Step::Fault(None),
+];
+
+// Writes sector 255 of both drives, and formats track 0 of cylinder 1 of the Winchester.
+const KEPT: &[Step] = &[
+    Step::Turns(1),
+    Step::Write(3, 255),
+    Step::Write(6, 0x60),
+    Step::Write(7, 0x30),
+    Step::Give(0xa5, 128),
+    Step::Turns(1),
+    Step::Write(6, 0x78),
+    Step::Write(7, 0x30),
+    Step::Give(0x3c, 128),
+    Step::Turns(1),
+    Step::Write(2, 1),
+    Step::Write(4, 1),
+    Step::Write(6, 0x60),
+    Step::Write(7, 0x50),
+    Step::Give(0x80, 1),
+    Step::Give(9, 127),
+    Step::Turns(2),
+    Step::Status(0x50, true),
+];
+
+// The memory of a drive that is fitted, or of one that was refused.
+fn memory_of<M: Make>(bay: Bay<Image<M>>) -> Vec<u8> {
+    match bay {
+        Bay::Fitted(image) => image.into_memory(),
+        Bay::Empty(memory) => memory,
+    }
+}
+
+// What the sector memories have once KEPT is played: a byte's place, and the byte. A track record begins with a count, a
+// size code and pairs of number and mark; check bytes follow from 130 on, and the sectors' bytes from 386 on.
+const WINCHESTER_MEMORY: &[(usize, u8)] = &[
+    (0, 8),
+    (1, 3),
+    (2, 255),
+    (3, 0),
+    (130, 0xb8),
+    (131, 0xe2),
+    (132, 0),
+    (133, 0),
+    (386, 0xa5),
+    (513, 0xa5),
+    (514, 0),
+    // the track of cylinder 1 and head 0, which is the third
+    (66_308, 1),
+    (66_309, 3),
+    (66_310, 9),
+    (66_311, 0x80),
+    (66_694, 0),
+];
+
+const FLOPPY_MEMORY: &[(usize, u8)] = &[
+    (130, 0x38),
+    (131, 0xf1),
+    (132, 0),
+    (386, 0x3c),
+    (513, 0x3c),
+    (514, 0),
+];
+
+// A memory has these bytes.
+fn has(rt: &impl Abort, memory: &[u8], bytes: &[(usize, u8)]) {
+    for (at, byte) in bytes {
+        assert_eq!(rt; memory.get(*at).copied(), Some(*byte), "byte {at}");
+    }
+}
+
+// The memory that comes back of drives that were written and formatted.
+#[test]
+fn memory_afterwards(rt: HostRuntime) -> Result<(), Fail> {
+    let mut board = board(&rt, rt.alloc(), false)?;
+    play(&rt, "kept", &mut board, KEPT);
+    let (winchester, floppy) = board.into_drives();
+    has(&rt, &memory_of(winchester.into_drive()), WINCHESTER_MEMORY);
+    has(&rt, &memory_of(floppy), FLOPPY_MEMORY);
+    Ok(())
+}
+
 // Plays each script of this module.
 #[test]
 fn transfers(rt: HostRuntime) -> Result<(), Fail> {
@@ -523,6 +744,7 @@ fn transfers(rt: HostRuntime) -> Result<(), Fail> {
             ("amid", false, AMID),
             ("failures", false, FAILURES),
             ("ecc", false, ECC),
+            ("corrected", false, CORRECTED),
         ],
     )
 }

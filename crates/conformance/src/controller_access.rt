@@ -1,8 +1,133 @@
 // Accesses to the registers: which are refused, by which refusal, and that a refused one changes nothing.
-use super::bench::{Step, play, play_each};
+use super::bench::{Refusals, Step, play, play_each};
 use controller::Controller;
 use drive::EmptyBay;
 use std::test::Fail;
+
+// By which refusal reads and writes of registers 0 to 8 are refused in each phase, or 0 where they are not.
+const REST: Refusals = ([3, 0, 0, 0, 0, 0, 0, 0, 1], [3, 0, 0, 0, 0, 0, 0, 5, 1]);
+
+const BUSY: Refusals = ([2, 2, 2, 2, 2, 2, 2, 0, 1], [2, 2, 2, 2, 2, 2, 2, 2, 1]);
+
+const OFFERING: Refusals = ([0, 0, 0, 0, 0, 0, 0, 0, 1], [3, 4, 4, 4, 4, 4, 4, 5, 1]);
+
+const TAKING: Refusals = ([3, 0, 0, 0, 0, 0, 0, 0, 1], [0, 4, 4, 4, 4, 4, 4, 5, 1]);
+
+// Each command in each of its phases, and what is refused there.
+const PHASES: &[Step] = &[
+    // the Test of a controller that is made now, and another
+    Step::Refused(BUSY),
+    Step::Turns(1),
+    Step::Refused(REST),
+    Step::Status(0x50, true),
+    Step::Write(7, 0x90),
+    Step::Refused(BUSY),
+    Step::Turns(1),
+    Step::Refused(REST),
+    Step::Status(0x50, true),
+    // Seek, and one that is aborted
+    Step::Write(4, 2),
+    Step::Write(6, 0x60),
+    Step::Write(7, 0x70),
+    Step::Refused(BUSY),
+    Step::Turn,
+    Step::Refused(BUSY),
+    Step::Turns(2),
+    Step::Refused(REST),
+    Step::Status(0x50, true),
+    Step::Registers([0, 0, 2, 0, 0x60]),
+    Step::Write(4, 3),
+    Step::Run(0x70, 0),
+    Step::Refused(REST),
+    Step::Read(1, 4),
+    Step::Registers([0, 0, 3, 0, 0x60]),
+    Step::Status(0x51, true),
+    // Restore
+    Step::Write(7, 0x10),
+    Step::Refused(BUSY),
+    Step::Turn,
+    Step::Refused(BUSY),
+    Step::Turns(2),
+    Step::Refused(REST),
+    Step::Status(0x50, true),
+    Step::Registers([0, 0, 0, 0, 0x60]),
+    // Write
+    Step::Write(3, 1),
+    Step::Write(7, 0x30),
+    Step::Refused(TAKING),
+    Step::Give(0x5a, 127),
+    Step::Refused(TAKING),
+    Step::Status(0x58, false),
+    Step::Give(0x5a, 1),
+    Step::Refused(BUSY),
+    Step::Turns(1),
+    Step::Refused(REST),
+    Step::Status(0x50, true),
+    // a multiple and long Write
+    Step::Write(2, 2),
+    Step::Write(3, 255),
+    Step::Write(7, 0x36),
+    Step::Refused(TAKING),
+    Step::Give(0x5b, 132),
+    Step::Refused(BUSY),
+    Step::Turns(1),
+    Step::Refused(TAKING),
+    Step::Registers([1, 0, 0, 0, 0x60]),
+    Step::Give(0x5c, 132),
+    Step::Refused(BUSY),
+    Step::Turns(1),
+    Step::Refused(REST),
+    Step::Registers([0, 1, 0, 0, 0x60]),
+    Step::Status(0x50, true),
+    // Read
+    Step::Write(7, 0x20),
+    Step::Refused(BUSY),
+    Step::Turns(1),
+    Step::Refused(OFFERING),
+    Step::Draw(0x5a, 127),
+    Step::Refused(OFFERING),
+    Step::Status(0x58, true),
+    Step::Draw(0x5a, 1),
+    Step::Refused(REST),
+    Step::Status(0x50, false),
+    // a multiple and long Read by DMA
+    Step::Write(2, 2),
+    Step::Write(3, 255),
+    Step::Write(7, 0x2e),
+    Step::Refused(BUSY),
+    Step::Turns(1),
+    Step::Refused(OFFERING),
+    Step::Draw(0x5b, 132),
+    Step::Refused(BUSY),
+    Step::Turns(1),
+    Step::Refused(OFFERING),
+    Step::Draw(0x5c, 132),
+    Step::Refused(REST),
+    Step::Registers([0, 1, 0, 0, 0x60]),
+    Step::Status(0x50, true),
+    // a Read that fails
+    Step::Write(3, 7),
+    Step::Write(7, 0x20),
+    Step::Refused(BUSY),
+    Step::Turns(9),
+    Step::Refused(OFFERING),
+    Step::Draw(0, 128),
+    Step::Refused(REST),
+    Step::Fault(Some((2, 0x10, 0, 0, 7, 9))),
+    Step::Status(0x51, true),
+    // Format
+    Step::Write(2, 1),
+    Step::Write(7, 0x50),
+    Step::Refused(TAKING),
+    Step::Give(0, 127),
+    Step::Refused(TAKING),
+    Step::Give(0, 1),
+    Step::Refused(BUSY),
+    Step::Turns(1),
+    Step::Refused(REST),
+    Step::Registers([0, 7, 0, 0, 0x60]),
+    Step::Status(0x50, true),
+];
 
 // The five refusals in each phase, and that they change nothing.
 const ACCESSES: &[Step] = &[
@@ -106,10 +231,14 @@ const ACCESSES: &[Step] = &[
     Step::Status(0x50, false),
 ];
 
-// Plays ACCESSES.
+// Plays PHASES and ACCESSES.
 #[test]
 fn accesses(rt: HostRuntime) -> Result<(), Fail> {
-    play_each(&rt, rt.alloc(), &[("accesses", false, ACCESSES)])
+    play_each(
+        &rt,
+        rt.alloc(),
+        &[("phases", false, PHASES), ("accesses", false, ACCESSES)],
+    )
 }
 
 // Whether a byte is one that gives a command.
@@ -135,7 +264,8 @@ fn is_command(byte: u8) -> bool {
     )
 }
 
-// Every byte written as a command to a controller without drives: Test runs, other commands are aborted, and the rest refused.
+// Every byte written as a command to a controller without drives: while BUSY is on each is refused; after that Test runs, other
+// commands are aborted, and the rest refused.
 #[test]
 fn command_bytes(rt: HostRuntime) {
     let mut board = Controller::new(EmptyBay, EmptyBay);
@@ -155,7 +285,14 @@ fn command_bytes(rt: HostRuntime) {
             &rt,
             "command bytes",
             &mut board,
-            &[Step::Reset, Step::Turns(1), given, fault, turns],
+            &[
+                Step::Reset,
+                Step::NoWrite(7, byte, 2),
+                Step::Turns(1),
+                given,
+                fault,
+                turns,
+            ],
         );
     }
 }

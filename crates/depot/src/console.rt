@@ -51,13 +51,13 @@ impl<W: Drive, F: Drive> Console<W, F> {
         self.grid
     }
 
-    // Makes calls, and hands back their answers; one that is refused is an error, told by its number and its name.
+    // Makes calls, and hands back their answers; one that is refused is an error, told by its number and in words.
     fn run(&mut self, calls: &[Call]) -> anyhow::Result<Vec<Answer>> {
         let answers = run(&mut self.controller, self.heap, calls)?;
         for answer in answers.iter() {
             if let Err(why) = answer {
                 let number = u8::from(*why);
-                return Err(anyhow!(format!(in self.heap; "access refused: {number}, {why:?}")?));
+                return Err(anyhow!(format!(in self.heap; "access refused: {number}, {why}")?));
             }
         }
         Ok(answers)
@@ -107,9 +107,8 @@ impl<W: Drive, F: Drive> Console<W, F> {
         Ok(bytes)
     }
 
-    // How the last command ended, by the status and the error register. This takes the interrupt back.
-    fn ending(&mut self) -> anyhow::Result<Result<Success, Failure>> {
-        let status = Status(self.read(Register::Status)?);
+    // How the last command ended, by its status and the error register.
+    fn ending(&mut self, status: Status) -> anyhow::Result<Result<Success, Failure>> {
         if status.is_error() {
             return Ok(Err(Failure {
                 error: self.read(Register::Error)?,
@@ -122,15 +121,18 @@ impl<W: Drive, F: Drive> Console<W, F> {
         Ok(Ok(Success::Clean))
     }
 
-    // Turns the controller until BUSY is off; the head stands at this cylinder then.
+    // Turns the controller until BUSY is off, and reads the status, which takes the interrupt back. The head stands at this
+    // cylinder then.
     fn wait(&mut self, cylinder: u16) -> anyhow::Result<Outcome> {
         let turns = finish(&mut self.controller);
         let steps = self.cylinder.abs_diff(cylinder);
         self.cylinder = cylinder;
+        let status = Status(self.read(Register::Status)?);
         Ok(Outcome {
             turns,
             attempts: turns.saturating_sub(steps),
-            ending: self.ending()?,
+            offers: status.is_request(),
+            ending: self.ending(status)?,
         })
     }
 
@@ -165,11 +167,7 @@ impl<W: Drive, F: Drive> Console<W, F> {
     pub fn read_record(&mut self, place: Place) -> anyhow::Result<Record> {
         self.command(place, Order::Read)?;
         let outcome = self.wait(place.cylinder)?;
-        let count = if self.controller.lines().drq {
-            RECORD
-        } else {
-            0
-        };
+        let count = if outcome.offers { RECORD } else { 0 };
         let bytes = self.draw(count)?;
         Ok(Record { outcome, bytes })
     }

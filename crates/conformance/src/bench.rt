@@ -41,19 +41,34 @@ pub enum Step {
     Turns(u16),
     // A master reset.
     Reset,
+    // Each access that is refused in a phase is refused, and leaves the lines as they were.
+    Refused(Refusals),
     // DRQ and INTRQ are on or off.
     Lines(bool, bool),
     // The status is this byte and DRQ its bit 3; INTRQ is on or off before it is read, and off after that.
     Status(u8, bool),
     // The last fault, if there is one, has these numbers.
     Fault(Option<FaultNumbers>),
-    // After a master reset, each of COMMANDS that is given with this SDH, count and cylinder leaves this status: 80h where it
-    // runs, 58h where it takes bytes, and an odd one where it is aborted.
+    // After a master reset, each command of a row of COMMANDS that is given with this SDH, count and cylinder leaves the status
+    // of that row: 80h where it runs, 58h where it takes bytes, and an odd one where it is aborted.
     Statuses(u8, u8, u16, [u8; 8]),
 }
 
+// By which refusal reads and writes of registers 0 to 8 are refused, or 0 where they are not. A write has FFh, which is no
+// command.
+pub type Refusals = ([u8; 9], [u8; 9]);
+
 // Test, Restore, Seek, Read, Write, Format, and Read and Write with L = 1.
-const COMMANDS: [u8; 8] = [0x90, 0x10, 0x70, 0x20, 0x30, 0x50, 0x22, 0x32];
+const COMMANDS: [&[u8]; 8] = [
+    &[0x90],
+    &[0x10, 0x1f],
+    &[0x70, 0x7f],
+    &[0x20, 0x24, 0x28, 0x2c],
+    &[0x30, 0x34],
+    &[0x50],
+    &[0x22, 0x26, 0x2a, 0x2e],
+    &[0x32, 0x36],
+];
 
 // What an aborted command leaves as the last fault.
 const ABORTED: FaultNumbers = (1, 4, 0, 0, 0, 0);
@@ -62,7 +77,7 @@ const ABORTED: FaultNumbers = (1, 4, 0, 0, 0, 0);
 pub type Script<'a> = (&'a str, bool, &'a [Step]);
 
 // A controller over a Winchester image under faults and a floppy image.
-type Board = Controller<FaultTable<Bay<WinchesterImage>>, Bay<FloppyImage>>;
+pub type Board = Controller<FaultTable<Bay<WinchesterImage>>, Bay<FloppyImage>>;
 
 // Sector memory for an image of these measures, whose first track has sectors 255, 0, 1, 2, 3, 4, 5 and 6 of 128 zeros; 2 is
 // marked bad.
@@ -79,12 +94,13 @@ fn memory(rt: &impl Abort, heap: Global, geometry: Geometry) -> Result<Vec<u8>, 
 }
 
 // The faults of the Winchester: cylinder, head, sector number, kind, the first of five wrong bits, and attempts. Those at
-// cylinder 1 and head 1 are for a track under ECC.
+// cylinder 1 are for tracks under ECC.
 const FLAWS: &[(u16, u8, u8, FaultKind, u16, u16)] = &[
     (0, 0, 3, FaultKind::NoId, 0, 8),
     (0, 0, 4, FaultKind::WrongBits, 40, 9),
     (0, 0, 5, FaultKind::NoDataMark, 0, 9),
     (0, 0, 6, FaultKind::WrongBits, 40, 8),
+    (1, 0, 255, FaultKind::WrongBits, 40, 2),
     (1, 1, 1, FaultKind::WrongBits, 1022, 2),
     (1, 1, 2, FaultKind::WrongBits, 0, 1),
     (1, 1, 2, FaultKind::WrongBits, 8, 1),
@@ -114,7 +130,7 @@ const FLOPPY: Geometry = Geometry {
 };
 
 // A board that is made now: a Winchester under the faults of FLAWS, and a floppy.
-fn board(rt: &impl Abort, heap: Global, protected: bool) -> Result<Board, Fail> {
+pub fn board(rt: &impl Abort, heap: Global, protected: bool) -> Result<Board, Fail> {
     let large = memory(rt, heap, WINCHESTER)?;
     let small = memory(rt, heap, FLOPPY)?;
     let winchester = fitted(WinchesterImage::new(WINCHESTER, protected, large));
@@ -191,6 +207,20 @@ impl<R: Abort, W: Drive, F: Drive> Bench<'_, R, W, F> {
         assert_eq!(self.rt; answer, Err(why), "{}", self.at);
     }
 
+    // Makes each of these accesses that is refused.
+    fn refusals(&mut self, (reads, writes): Refusals) {
+        let lines = self.board.lines();
+        for (number, (read, write)) in (0..9u8).zip(reads.into_iter().zip(writes)) {
+            if read != 0 {
+                self.refused(Call::Read(number), read);
+            }
+            if write != 0 {
+                self.refused(Call::Write(number, 0xff), write);
+            }
+        }
+        assert_eq!(self.rt; self.board.lines(), lines, "{}", self.at);
+    }
+
     // Reads registers 2 to 6.
     fn read_registers(&mut self, bytes: [u8; 5]) {
         for (number, byte) in (2..7u8).zip(bytes) {
@@ -248,16 +278,23 @@ impl<R: Abort, W: Drive, F: Drive> Bench<'_, R, W, F> {
         self.read_status(status, aborted);
     }
 
-    // Gives each of COMMANDS with this SDH, count and cylinder; Restore alone changes registers.
-    fn leave_statuses(&mut self, sdh: u8, count: u8, cylinder: u16, statuses: [u8; 8]) {
+    // Gives a command with this SDH, count and cylinder, which leaves this status; Restore alone changes registers.
+    fn leave_status(&mut self, command: u8, sdh: u8, count: u8, cylinder: u16, status: u8) {
         let [high, low] = cylinder.to_be_bytes();
-        for (command, status) in COMMANDS.into_iter().zip(statuses) {
-            self.give_anew([count, 9, low, high, sdh], command);
-            let left = match command {
-                0x10 => [count, 9, 0, 0, sdh],
-                _ => [count, 9, low, high, sdh],
-            };
-            self.has_left(left, status);
+        self.give_anew([count, 9, low, high, sdh], command);
+        let left = match command {
+            0x10..=0x1f => [count, 9, 0, 0, sdh],
+            _ => [count, 9, low, high, sdh],
+        };
+        self.has_left(left, status);
+    }
+
+    // Gives each of COMMANDS with this SDH, count and cylinder.
+    fn leave_statuses(&mut self, sdh: u8, count: u8, cylinder: u16, statuses: [u8; 8]) {
+        for (commands, status) in COMMANDS.into_iter().zip(statuses) {
+            for command in commands {
+                self.leave_status(*command, sdh, count, cylinder, status);
+            }
         }
     }
 
@@ -279,6 +316,7 @@ impl<R: Abort, W: Drive, F: Drive> Bench<'_, R, W, F> {
             Step::Turn => self.call(Call::Turn, Ok(None)),
             Step::Turns(count) => self.turns(count),
             Step::Reset => self.call(Call::Reset, Ok(None)),
+            Step::Refused(refusals) => self.refusals(refusals),
             Step::Lines(drq, intrq) => self.lines(drq, intrq),
             Step::Status(byte, intrq) => self.read_status(byte, intrq),
             Step::Fault(fault) => self.last_fault(fault),

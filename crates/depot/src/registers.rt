@@ -4,7 +4,7 @@ use std::fmt;
 use task_file::Register;
 
 // The commands that a console gives, each by its byte.
-#[derive(Clone, Copy)]
+#[derive(Clone, Copy, Debug)]
 pub enum Order {
     Restore = 0x10,
     Read = 0x20,
@@ -21,7 +21,7 @@ impl From<Order> for u8 {
 impl fmt::Display for Order {
     fn fmt<W: fmt::Write>(&self, f: &mut fmt::Formatter<W>) -> fmt::Result {
         let byte = u8::from(*self);
-        write!(f, "{byte:02x}h")
+        write!(f, "{self:?} ({byte:02x}h)")
     }
 }
 
@@ -42,6 +42,11 @@ impl Status {
     // A sector was corrected.
     pub fn is_corrected(self) -> bool {
         self.0 & 0x04 != 0
+    }
+
+    // A byte is asked for: one that is offered, or one that is to be given.
+    pub fn is_request(self) -> bool {
+        self.0 & 0x08 != 0
     }
 }
 

@@ -26,7 +26,18 @@ pub struct Outcome {
     pub turns: u16,
     // The turns that were no steps of the head.
     pub attempts: u16,
+    // Bytes are offered.
+    pub offers: bool,
     pub ending: Result<Success, Failure>,
+}
+
+// What came of several commands together: turns, attempts beyond the first of each, and sectors that were corrected or failed.
+#[derive(Clone, Copy, Default)]
+pub struct Tally {
+    pub turns: u32,
+    pub retries: u32,
+    pub corrected: u32,
+    pub failed: u32,
 }
 
 impl fmt::Display for Failure {
@@ -57,6 +68,20 @@ impl Outcome {
         match self.ending {
             Err(failure) => Err(anyhow!(format!(in heap; "{words}: {failure}")?)),
             Ok(_) => Ok(self),
+        }
+    }
+}
+
+impl Tally {
+    // Counts one command more.
+    pub fn count(&mut self, outcome: Outcome) {
+        let retries = u32::from(outcome.attempts.saturating_sub(1));
+        self.turns = self.turns.saturating_add(u32::from(outcome.turns));
+        self.retries = self.retries.saturating_add(retries);
+        match outcome.ending {
+            Ok(Success::Clean) => {}
+            Ok(Success::Corrected) => self.corrected = self.corrected.saturating_add(1),
+            Err(_) => self.failed = self.failed.saturating_add(1),
         }
     }
 }
