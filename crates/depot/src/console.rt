@@ -4,8 +4,9 @@ use super::registers::{ECC_512, Order, Status, read, write};
 use anyhow::anyhow;
 use controller::{Controller, Lines};
 use drive::{Drive, Place};
-use histories::{Answer, Call, finish, make_call, run};
+use histories::{Answer, Call, finish, make_call};
 use records::{Grid, RECORD};
+use round_trip::run;
 use std::alloc::Global;
 use task_file::Register;
 

@@ -66,16 +66,16 @@ formats d head ids size check = by_answer (is_ok (format_answer d head ids size)
 -- ---- reading
 -- a read attempt at a sector that stands on the track of a ready drive
 module _ (d : DriveModel) (head number : ℕ) (size : SizeCode) (b : SectorBuffer) (k : ℕ) (ready : d.ready ≡ true) (slot : slot_of (track_under d head) number size ≡ Some k) where
-  abbrev sector : Sector
+  abbrev pub sector : Sector
   sector = get_or (track_under d head) k no_sector
 
   -- the answer by what is shown and the mark, and the buffer
-  abbrev answer_by : Showing → Bool → Result (Unit {0}) ReadError
+  abbrev pub answer_by : Showing → Bool → Result (Unit {0}) ReadError
   answer_by no_id bad = (Err read_error.NoId)
   answer_by no_data_mark bad = cond bad (Err read_error.BadBlock) (Err read_error.NoDataMark)
   answer_by (wrong_bits w) bad = cond bad (Err read_error.BadBlock) done
 
-  abbrev buffer_by : Showing → Bool → SectorBuffer
+  abbrev pub buffer_by : Showing → Bool → SectorBuffer
   buffer_by no_id bad = b
   buffer_by no_data_mark bad = b
   buffer_by (wrong_bits w) bad = cond bad b (delivered (wrong_bits w) sector b)

@@ -29,8 +29,8 @@ use Rattle.round_trip.specs.Ledger.{entered, Notes, no_notes, noted, notes_from,
 use Rattle.round_trip.specs.Laws.{track_of, ADrive}
 use Rattle.round_trip.proofs.Sound.{Sound, Buffered, sound_drive}
 use Rattle.round_trip.proofs.Accessed as access
-use Rattle.round_trip.proofs.Kept.{TakenFits, Kept, news, taken_now, kept_same, kept_read, kept_put, kept_begun}
-use Rattle.round_trip.proofs.Turned.{Leaves, job_event, turned_result}
+use Rattle.round_trip.proofs.Kept.{TakenFits, Kept, news, taken_now, turn_taken, kept_same, kept_read, kept_put, kept_begun}
+use Rattle.round_trip.proofs.Turned.{Changes, Leaves, job_event, turned_result}
 use Rattle.round_trip.proofs.Ledgers.{LedgerHeld, track_same, ledger_same, FitsEvent, ledger_after}
 
 -- The invariant: in order; sound drives; a kept state; and each plain entry of the ledger stands on its track.
@@ -140,49 +140,68 @@ event_fits bay b e others n head (Write j) h phase = fits_written _
 event_fits bay b e others n head j h phase = grind arith
 
 -- the event of a busy controller's turn is its job's
-event_is : (j : Job) (bay : Bay) (head : ℕ) (b : ControllerModel) → turn_event_on (Busy j) bay head b ≡ job_event bay head b.state (drive_in bay b) j
+pub event_is : (j : Job) (bay : Bay) (head : ℕ) (b : ControllerModel) → turn_event_on (Busy j) bay head b ≡ job_event bay head b.state (drive_in bay b) j
 event_is j bay head b = grind arith
 
 -- the notes after a turn between two phases
 abbrev noted_turn : Phase → Phase → Event → Notes → Notes
 noted_turn p q event n = record { taken = taken_now p q false n.taken; ledger = entered event n.taken n.ledger; in_force = n.in_force }
 
--- on one of the drives
+-- what a turn of a job on one of the drives leads to: sound drives, a kept state, the other drive's tracks as they were and this drive's as the event says
+pub record JobTurn (bay : Bay) (n : Notes) (b e : ControllerModel) (event : Event) : Type 0 where
+  pub winchester_sound : Sound e.winchester
+  pub floppy_sound : Sound e.floppy
+  pub kept : Kept (turn_taken n.taken e.state) n.in_force e.state
+  pub others : (u : TrackName) → same_bay u.bay bay ≡ false → track_of e u ≡ track_of b u
+  pub changes : Changes bay (drive_in bay b) (drive_in bay e) b.state.buffer event
+
+pub job_turn : (bay : Bay) (head : ℕ) (j : Job) (n : Notes) (b : ControllerModel) → Held n b → b.state.phase ≡ Busy j
+    → (t : Turned) → t ≡ worked j b.state head (drive_in bay b) → (e : ControllerModel) → e ≡ put_drive bay b t.state t.drive
+    → JobTurn bay n b e (job_event bay head b.state (drive_in bay b) j)
+job_turn bay head j n b h phase t is e made =
+    let s = b.state in
+    let d = drive_in bay b in
+    let r : Leaves bay n.taken n.in_force s d (job_event bay head s d j) t = rw is (turned_result bay n.taken n.in_force head s d (sound_in_bay bay n b h) j phase h.kept) in
+    let drive : drive_in bay e ≡ t.drive = rw made (drive_put bay b t.state t.drive) in
+    let state : e.state ≡ t.state = rw made (state_put bay b t.state t.drive) in
+    record {
+      winchester_sound = rw made (winchester_put bay n b t.state t.drive h r.sound);
+      floppy_sound = rw made (floppy_put bay n b t.state t.drive h r.sound);
+      kept = rw state r.kept;
+      others = λ u other. rw made (other_bay bay b t.state t.drive u other);
+      changes = rw drive r.changes;
+    }
+
 held_job : (bay : Bay) (head : ℕ) (j : Job) (n : Notes) (b : ControllerModel) → Held n b → b.state.phase ≡ Busy j
     → (t : Turned) → t ≡ worked j b.state head (drive_in bay b) → (e : ControllerModel) → e ≡ put_drive bay b t.state t.drive → InOrder e
     → Held (noted_turn (Busy j) e.state.phase (turn_event_on (Busy j) bay head b) n) e
 held_job bay head j n b h phase t is e made order =
-    let s = b.state in
-    let d = drive_in bay b in
-    let event = job_event bay head s d j in
-    let r : Leaves bay n.taken n.in_force s d event t = rw is (turned_result bay n.taken n.in_force head s d (sound_in_bay bay n b h) j phase h.kept) in
-    let others : (u : TrackName) → same_bay u.bay bay ≡ false → track_of e u ≡ track_of b u = λ u other. rw made (other_bay bay b t.state t.drive u other) in
-    let drive : drive_in bay e ≡ t.drive = rw made (drive_put bay b t.state t.drive) in
-    let state : e.state ≡ t.state = rw made (state_put bay b t.state t.drive) in
-    let no_command : news (Busy j) t.state.phase false ≡ requests t.state.phase = grind arith in
+    let event = job_event bay head b.state (drive_in bay b) j in
+    let r = job_turn bay head j n b h phase t is e made in
+    let no_command : news (Busy j) e.state.phase false ≡ requests e.state.phase = grind arith in
     record {
       order = order;
-      winchester_sound = rw made (winchester_put bay n b t.state t.drive h r.sound);
-      floppy_sound = rw made (floppy_put bay n b t.state t.drive h r.sound);
-      kept = rw (state, no_command) r.kept;
+      winchester_sound = r.winchester_sound;
+      floppy_sound = r.floppy_sound;
+      kept = rw no_command r.kept;
       ledger = rw (event_is j bay head b)
-          (ledger_after bay b e others s.buffer n.taken n.ledger event (rw drive r.changes) (event_fits bay b e others n head j h phase) h.ledger);
+          (ledger_after bay b e r.others b.state.buffer n.taken n.ledger event r.changes (event_fits bay b e r.others n head j h phase) h.ledger);
     }
 
 -- nothing is left to do where no drive is selected
 without_kept : (taken : List ℕ) (o : Option Command) (j : Job) (s : State) → Buffered s.buffer → Kept taken o (without_drive j s)
 without_kept taken o j s f = record { buffered = record { bytes_long = grind arith; check_long = grind arith }; fits = grind arith; agrees = grind arith }
 
-abbrev event_by : Phase → Option Selection → ControllerModel → Event
+abbrev pub event_by : Phase → Option Selection → ControllerModel → Event
 event_by p (Some (Winchester head)) b = turn_event_on p winchester head b
 event_by p (Some (Floppy head)) b = turn_event_on p floppy head b
 event_by p None b = nothing
 
-event_by_is : (sel : Option Selection) (b : ControllerModel) → turn_event sel b ≡ event_by b.state.phase sel b
+pub event_by_is : (sel : Option Selection) (b : ControllerModel) → turn_event sel b ≡ event_by b.state.phase sel b
 event_by_is sel b = grind arith
 
 -- at rest and while bytes move nothing happens
-idle_event : (p : Phase) (sel : Option Selection) (b : ControllerModel) → is_busy p ≡ false → event_by p sel b ≡ nothing
+pub idle_event : (p : Phase) (sel : Option Selection) (b : ControllerModel) → is_busy p ≡ false → event_by p sel b ≡ nothing
 idle_event p sel b idle = grind arith
 
 held_idle : (p : Phase) (sel : Option Selection) (n : Notes) (b : ControllerModel) → b.state.phase ≡ p → is_busy p ≡ false → Held n b → Held (noted_turn p b.state.phase (event_by p sel b) n) b

@@ -8,3 +8,13 @@ pub mod Turned
 pub mod Ledgers
 pub mod Held
 pub mod Codes
+pub mod Drawing
+pub mod Beginning
+pub mod Requests
+pub mod Showings
+pub mod Verdicts
+pub mod Attempted
+pub mod Reading
+pub mod Waiting
+pub mod ReadLaws
+pub mod Laws

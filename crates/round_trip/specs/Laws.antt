@@ -17,7 +17,7 @@ use Rattle.task_file.specs.Registers.{mode_at, selected}
 use Rattle.controller.specs.Model.{ControllerModel}
 use Rattle.histories.specs.declared.call.Call.{Call}
 use Rattle.histories.specs.declared.call.Call.TheVariants as call
-use Rattle.histories.specs.Runs.{Answer, byte_read, answer_to, called, runs, at}
+use Rattle.histories.specs.Runs.{Answer, byte_read, answer_to, called, runs, answers, at}
 use Rattle.round_trip.specs.Events.{busy, drq, error, accepts, drq_comes_on, busy_comes_on, winchester, floppy, drive_in, TrackName, SectorName, same_track, sector_named, Event, nothing, sector_written, track_formatted, event_of}
 use Rattle.round_trip.specs.Ledger.{Writing, Notes, notes_of}
 
@@ -129,15 +129,16 @@ NoReset (call.Write n byte ∷ cs) = NoReset cs
 NoReset (call.Turn ∷ cs) = NoReset cs
 NoReset (call.Reset ∷ cs) = ⊥
 
--- ---- the laws
--- Same bytes. BUSY comes on for a sector of a plain read and stays on until a turn raises DRQ. With Error off, the byte
--- drawn after i others since then is byte i of the sector's last writing.
-abbrev pub SameBytes : DriveModel → DriveModel → Type 0
-SameBytes w f =
-    (before : List Call) (c : Call) (waiting drawing : List Call) (m : ReadMode) (name : SectorName) (x : Writing)
+-- ---- the laws, each of a history from the making over two drives
+-- Same bytes. BUSY comes on for a sector of a plain read and stays on until a turn raises DRQ. With Error off, a data read
+-- that comes after i others since then answers byte i of the sector's last writing.
+abbrev pub SameBytes : DriveModel → DriveModel → List Call → Type 0
+SameBytes w f history =
+    (before : List Call) (c : Call) (waiting drawing rest : List Call) (m : ReadMode) (name : SectorName) (x : Writing)
     → let b = at w f (before ++ (c ∷ [])) in
     let offered = called (runs b waiting) call.Turn in
-    busy_comes_on (at w f before) c ≡ true
+    history ≡ before ++ (c ∷ waiting ++ (call.Turn ∷ drawing ++ (call.Read 0 ∷ rest)))
+    → busy_comes_on (at w f before) c ≡ true
     → PlainRead b (notes_of w f (before ++ (c ∷ []))) m name x
     → BusyThroughout b waiting
     → drq_comes_on (runs b waiting) call.Turn ≡ true
@@ -145,13 +146,33 @@ SameBytes w f =
     → error (runs offered drawing) ≡ false
     → answer_to (runs offered drawing) (call.Read 0) ≡ byte_read (slice_index x.bytes (drawn_in offered drawing))
 
+-- BUSY came on under a read, and is on since: some calls, the one that turned it on, and the calls from there to now.
+pub record BusySince (w f : DriveModel) (history : List Call) (m : ReadMode) : Type 0 where
+  pub before : List Call
+  pub first : Call
+  pub waiting : List Call
+  pub split : history ≡ before ++ (first ∷ waiting)
+  pub comes_on : busy_comes_on (at w f before) first ≡ true
+  pub in_force : (notes_of w f (before ++ (first ∷ []))).in_force ≡ Some (Read m)
+  pub on : BusyThroughout (at w f (before ++ (first ∷ []))) waiting
+
+-- Each DRQ of a read comes so: BUSY came on for it under the same command, and stayed on until a turn raised DRQ.
+abbrev pub EveryRequest : DriveModel → DriveModel → List Call → Type 0
+EveryRequest w f history =
+    (before : List Call) (c : Call) (rest : List Call) (m : ReadMode)
+    → history ≡ before ++ (c ∷ rest)
+    → drq_comes_on (at w f before) c ≡ true
+    → (notes_of w f (before ++ (c ∷ []))).in_force ≡ Some (Read m)
+    → (c ≡ call.Turn) × BusySince w f before m
+
 -- Clean exactly when it can be. A plain single-sector read that is accepted and not aborted raises DRQ by the 1,032nd
 -- turn, unless a reset comes first; Error is then off exactly when its sector stands unmarked and is readable.
-abbrev pub CleanExactlyWhen : DriveModel → DriveModel → Type 0
-CleanExactlyWhen w f =
+abbrev pub CleanExactlyWhen : DriveModel → DriveModel → List Call → Type 0
+CleanExactlyWhen w f history =
     (before : List Call) (byte : ℕ) (after : List Call) (m : ReadMode) (name : SectorName) (x : Writing)
     → let b = at w f (before ++ (call.Write 7 byte ∷ [])) in
-    accepts (at w f before) (call.Write 7 byte) ≡ true
+    history ≡ before ++ (call.Write 7 byte ∷ after)
+    → accepts (at w f before) (call.Write 7 byte) ≡ true
     → busy b ≡ true
     → PlainRead b (notes_of w f (before ++ (call.Write 7 byte ∷ []))) m name x
     → m.multiple ≡ false
@@ -175,23 +196,38 @@ LeftAlone (sector_written name mode plain) b e =
     × (length (track_of e name.track) ≡ length (track_of b name.track))
 LeftAlone (track_formatted name ids size mode) b e = (t : TrackName) → same_track name t ≡ false → track_of e t ≡ track_of b t
 
--- Nothing else moves.
-abbrev pub NothingElseMoves : DriveModel → DriveModel → Type 0
-NothingElseMoves w f = (before : List Call) (c : Call) → LeftAlone (event_of (at w f before) c) (at w f before) (called (at w f before) c)
+-- Nothing else moves: a call leaves every sector alone but the one being written or those of the track being formatted.
+abbrev pub NothingElseMoves : DriveModel → DriveModel → List Call → Type 0
+NothingElseMoves w f history =
+    (before : List Call) (c : Call) (rest : List Call) → history ≡ before ++ (c ∷ rest)
+    → LeftAlone (event_of (at w f before) c) (at w f before) (called (at w f before) c)
 
 -- BUSY goes off by the 1,032nd turn.
-abbrev pub BusyEnds : DriveModel → DriveModel → Type 0
-BusyEnds w f =
-    (before after : List Call) → 1032 ≤ turn_count after
+abbrev pub BusyEnds : DriveModel → DriveModel → List Call → Type 0
+BusyEnds w f history =
+    (before after : List Call) → history ≡ before ++ after → 1032 ≤ turn_count after
     → (waiting : List Call) × ((rest : List Call) × ((after ≡ waiting ++ rest) × (turn_count waiting ≤ 1032) × (busy (runs (at w f before) waiting) ≡ false)))
 
--- The theorem, whole, of two drives at the making.
-pub record RoundTrip (w f : DriveModel) : Type 0 where
-  pub same_bytes : SameBytes w f
-  pub clean_exactly_when : CleanExactlyWhen w f
-  pub nothing_else_moves : NothingElseMoves w f
-  pub busy_ends : BusyEnds w f
+-- The theorem, whole, of a history from the making over two drives.
+pub record RoundTrip (w f : DriveModel) (history : List Call) : Type 0 where
+  pub same_bytes : SameBytes w f history
+  pub every_request : EveryRequest w f history
+  pub clean_exactly_when : CleanExactlyWhen w f history
+  pub nothing_else_moves : NothingElseMoves w f history
+  pub busy_ends : BusyEnds w f history
 
 -- a drive with the meaning of a drive: at most 1,024 cylinders and 8 heads, its head on one of them, whole sectors on its tracks
 abbrev pub ADrive : DriveModel → Type 0
 ADrive d = Bounded (record { cylinders = 1024; heads = 8 }) d
+
+-- ---- what is promised of every history
+-- The theorem holds of all drives and all histories.
+unfoldable pub ScriptIsSheet : Type 0
+ScriptIsSheet = (w f : DriveModel) → ADrive w → ADrive f → (history : List Call) → RoundTrip w f history
+
+-- What a run tells: for every pair of drives and every history that led from their making to the controller as it came in,
+-- that history continued by these calls leads to the controller as it is now, each answer is its call's, and the laws hold of it.
+unfoldable pub Tells : ControllerModel → List Call → List Answer → ControllerModel → Type 0
+Tells old calls given new =
+    (w f : DriveModel) → ADrive w → ADrive f → (history : List Call) → at w f history ≡ old
+    → (at w f (history ++ calls) ≡ new) × (given ≡ answers (at w f history) calls) × RoundTrip w f (history ++ calls)

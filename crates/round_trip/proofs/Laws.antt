@@ -1,0 +1,196 @@
+-- The laws of same bytes and of clean reads, and the theorem whole.
+use Rattle.std.proofs.Common.{◌≡◌, ℕ, ◌<◌, true, false, not, ◌||◌, List, [], ◌∷◌, ◌++◌, take, is_some, None, sym, ap, ◌∙◌, subst, zero-add, arith, slice_index}
+use Rattle.std.proofs.lemmas.Bool.{and_parts, and_from}
+use Rattle.sector.specs.Sizes.{bytes_of}
+use Rattle.drive.specs.Model.{DriveModel}
+use Rattle.task_file.specs.declared.command.ReadMode.{ReadMode}
+use Rattle.task_file.specs.declared.state.Job.TheVariants.{Read}
+use Rattle.task_file.specs.declared.state.Phase.{Phase}
+use Rattle.task_file.specs.declared.state.Phase.TheVariants.{Busy, Offering}
+use Rattle.task_file.specs.Registers.{size_at}
+use Rattle.task_file.specs.State.{first_read, is_busy, requests}
+use Rattle.controller.specs.Model.{ControllerModel, made}
+use Rattle.histories.specs.declared.call.Call.{Call}
+use Rattle.histories.specs.declared.call.Call.TheVariants as call
+use Rattle.histories.specs.Runs.{Answer, called, runs, answers, at, answer_to, byte_read, Continues}
+use Rattle.histories.specs.Working.{InOrder, Counted}
+use Rattle.histories.proofs.Orders.{order_call, order_runs}
+use Rattle.histories.proofs.Runs.{runs_joined}
+use Rattle.round_trip.specs.Events.{busy, drq, error, Bay, SectorName, sector_named, busy_comes_on, drq_comes_on}
+use Rattle.round_trip.specs.Ledger.{Writing, Notes, notes_of}
+use Rattle.round_trip.specs.Laws.{PlainRead, BusyThroughout, DrqThroughout, NoReset, drawn_in, Mild, used_bits, outlook_at, StandsUnmarked, Readable, SameBytes, CleanExactlyWhen, ADrive, ScriptIsSheet, Tells}
+use Rattle.round_trip.proofs.Held.{Held, held_at}
+use Rattle.round_trip.proofs.Ledgers.{WrittenThere}
+use Rattle.round_trip.proofs.Requests.{every_request}
+use Rattle.round_trip.proofs.Drawing.{drawing, draws_next}
+use Rattle.round_trip.proofs.Showings.{readable_settles, settles_readable}
+use Rattle.round_trip.proofs.Waiting.{ends_by_turn, left_at, busy_last, busy_ends, nothing_else_moves}
+use Rattle.round_trip.proofs.Beginning.{accepted_clean, accepted_begins, begins_afresh, read_in_force}
+use Rattle.round_trip.proofs.Reading.{selects, Begins}
+use Rattle.round_trip.proofs.ReadLaws.{not_both, test_ends, first_tries, Under, way, reset, under_way, Ends, read, failed, ends}
+
+-- ---- where a read begins
+-- a plain read begins at a sector that the registers name
+record Start (b : ControllerModel) (m : ReadMode) (name : SectorName) (x : Writing) : Type 0 where
+  bay : Bay
+  head : ℕ
+  named : sector_named bay head b.state.registers ≡ name
+  begins : Begins b bay head m x
+  phase : b.state.phase ≡ Busy (Read (first_read m))
+
+at_more : (w f : DriveModel) (before : List Call) (c : Call) → at w f (before ++ (c ∷ [])) ≡ called (at w f before) c
+unfolding runs
+at_more w f before c = runs_joined (made w f) before (c ∷ [])
+
+starts : (n : Notes) (b : ControllerModel) (m : ReadMode) (name : SectorName) (x : Writing) → Held n b → (a : ControllerModel) (c : Call) → b ≡ called a c → busy_comes_on a c ≡ true → PlainRead b n m name x → Start b m name x
+starts n b m name x held a c is comes r =
+    let on : busy b ≡ true = ap busy is ∙ (and_parts (busy (called a c)) _ comes).0 in
+    let j = read_in_force n b m held.kept r.in_force on in
+    let fresh = begins_afresh a c j.0 comes (ap (λ (z : ControllerModel). z.state.phase) (sym is) ∙ j.1.0) in
+    let sel = selects b name r.named in
+    record {
+      bay = sel.bay;
+      head = sel.head;
+      named = sel.named;
+      begins =
+          record {
+            plain = r.plain;
+            chosen = sel.chosen;
+            written = subst (λ z. WrittenThere b z x) (sym sel.named) (held.ledger name x r.last_writing r.written_plain);
+            same_mode = sym r.same_mode;
+            mild = subst (λ z. (k : ℕ) → k < 9 → Mild (used_bits x.mode z) (outlook_at b z k)) (sym sel.named) r.mild;
+          };
+      phase = j.1.0 ∙ ap (λ z. Busy (Read z)) (fresh ∙ ap first_read j.1.1);
+    }
+
+-- ---- same bytes
+-- once it was read, each byte drawn is the sector's
+drawn_is : (m : ReadMode) (x : Writing) (e : ControllerModel) → m.long ≡ false → InOrder e → e.state.phase ≡ Offering m 0 → take (bytes_of (size_at e.state.registers.sdh)) e.state.buffer.bytes ≡ x.bytes
+    → (drawing_calls : List Call) → DrqThroughout e drawing_calls → answer_to (runs e drawing_calls) (call.Read 0) ≡ byte_read (slice_index x.bytes (drawn_in e drawing_calls))
+drawn_is m x e plain order phase bytes cs on =
+    let d = drawing cs e m 0 phase on in
+    let z = runs e cs in
+    let off : z.state.phase ≡ Offering m (drawn_in e cs) = rw zero-add at d.phase in
+    let few : drawn_in e cs < bytes_of (size_at z.state.registers.sdh) = rw plain at (subst (λ q. Counted q z.state.registers) off (order_runs e cs order).counted) in
+    let same : take (bytes_of (size_at z.state.registers.sdh)) z.state.buffer.bytes ≡ x.bytes = rw (d.registers, d.buffer) bytes in
+    draws_next z m (drawn_in e cs) off plain few ∙ ap (λ ys. byte_read (slice_index ys (drawn_in e cs))) same
+
+request_is_not_busy : (p : Phase) → requests p ≡ true → is_busy p ≡ false
+request_is_not_busy p asks = grind arith
+
+-- from where it began, through the turn that raises DRQ
+module _ (b : ControllerModel) (m : ReadMode) (name : SectorName) (x : Writing) (s : Start b m name x) (order : InOrder b) (waiting : List Call) (on : BusyThroughout b waiting) where
+  abbrev e : ControllerModel
+  e = runs b waiting
+
+  abbrev offered : ControllerModel
+  offered = called e call.Turn
+
+  under : Under b s.bay s.head m x s.begins waiting e
+  under = under_way b s.bay s.head m x s.begins waiting 0 b (first_tries b s.bay s.head m x s.begins order s.phase) on
+
+  order_offered : InOrder offered
+  order_offered = order_call e call.Turn (order_runs b waiting order)
+
+  module _ (asks : drq offered ≡ true) (cs : List Call) (throughout : DrqThroughout offered cs) (clean : error (runs offered cs) ≡ false) where
+    abbrev Same : Type 0
+    Same = answer_to (runs offered cs) (call.Read 0) ≡ byte_read (slice_index x.bytes (drawn_in offered cs))
+
+    by_end : Ends b s.bay s.head m x s.begins offered → Same
+    by_end (read k few standing settled front failure phase sdh) =
+        drawn_is m x offered s.begins.plain order_offered phase (ap (λ z. take (bytes_of (size_at z)) offered.state.buffer.bytes) sdh ∙ front) cs throughout
+    by_end (failed why failure offering asked) =
+        let d = drawing cs offered m 0 (offering asks) throughout in
+        not_both (error (runs offered cs)) (ap is_some d.failure ∙ failure) clean
+
+    same : Under b s.bay s.head m x s.begins waiting e → Same
+    same (way k t) = by_end (ends b s.bay s.head m x s.begins k e t (request_is_not_busy offered.state.phase asks))
+    same (reset not_none test) = not_both (drq offered) asks (ap requests (test_ends e test))
+
+pub same_bytes : (w f : DriveModel) → ADrive w → ADrive f → (history : List Call) → SameBytes w f history
+same_bytes w f aw af history before c waiting cs rest m name x split comes r on raises throughout clean =
+    let b = at w f (before ++ (c ∷ [])) in
+    let n = notes_of w f (before ++ (c ∷ [])) in
+    let held = held_at w f aw af (before ++ (c ∷ [])) in
+    let s = starts n b m name x held (at w f before) c (at_more w f before c) comes r in
+    let asks = (and_parts (drq (called (runs b waiting) call.Turn)) _ raises).0 in
+    same b m name x s held.order waiting on asks cs throughout clean (under b m name x s held.order waiting on)
+
+-- ---- clean exactly when it can be
+module _ (b : ControllerModel) (m : ReadMode) (name : SectorName) (x : Writing) (s : Start b m name x) (order : InOrder b) (waiting : List Call) (on : BusyThroughout b waiting)
+    (single : m.multiple ≡ false) (none : NoReset waiting) (no_failure : b.state.failure ≡ None) (off : busy (called (runs b waiting) call.Turn) ≡ false) where
+  abbrev here : SectorName
+  here = sector_named s.bay s.head b.state.registers
+
+  abbrev bits : ℕ
+  bits = used_bits x.mode here
+
+  abbrev after : ControllerModel
+  after = called (runs b waiting) call.Turn
+
+  -- what the turn that raises DRQ shows
+  record Shows (at_sector : SectorName) : Type 0 where
+    raises : drq after ≡ true
+    only : error after ≡ false → StandsUnmarked b at_sector × Readable x.mode (used_bits x.mode at_sector) (outlook_at b at_sector)
+    whenever : StandsUnmarked b at_sector → Readable x.mode (used_bits x.mode at_sector) (outlook_at b at_sector) → error after ≡ false
+
+  shows_by : Ends b s.bay s.head m x s.begins after → Shows here
+  shows_by (read k few standing settled front failure phase sdh) =
+      let off_error : error after ≡ false = ap is_some (failure ∙ no_failure) in
+      record {
+        raises = ap requests phase;
+        only = λ _. (standing, settles_readable x.mode here.size x.bytes s.begins.written.1 (outlook_at b here) s.begins.mild k few settled);
+        whenever = λ _ _. off_error;
+      }
+  shows_by (failed why failure offering asked) =
+      record {
+        raises = asked single;
+        only = λ clean. not_both (error after) failure clean;
+        whenever = λ standing readable.
+            let k = readable_settles x.mode here.size x.bytes s.begins.written.1 (outlook_at b here) readable in
+            absurd (why standing k.0 k.1.0 k.1.1);
+      }
+
+  shows : Under b s.bay s.head m x s.begins waiting (runs b waiting) → Shows name
+  shows (way k t) = subst Shows s.named (shows_by (ends b s.bay s.head m x s.begins k (runs b waiting) t off))
+  shows (reset not_none test) = absurd (not_none none)
+
+raised : (e : ControllerModel) → busy e ≡ true → drq (called e call.Turn) ≡ true → drq_comes_on e call.Turn ≡ true
+raised e on asks = and_from _ _ asks (idle e.state.phase on)
+  where
+    idle : (p : Phase) → is_busy p ≡ true → (not (requests p) || false) ≡ true
+    idle p on = grind arith
+
+pub clean_exactly_when : (w f : DriveModel) → ADrive w → ADrive f → (history : List Call) → CleanExactlyWhen w f history
+clean_exactly_when w f aw af history before byte after m name x split accepted on r single none enough =
+    let h = before ++ (call.Write 7 byte ∷ []) in
+    let b = at w f h in
+    let held = held_at w f aw af h in
+    let is = at_more w f before (call.Write 7 byte) in
+    let on_then : busy (called (at w f before) (call.Write 7 byte)) ≡ true = ap busy (sym is) ∙ on in
+    let s = starts (notes_of w f h) b m name x held (at w f before) (call.Write 7 byte) is (accepted_begins (at w f before) byte accepted on_then) r in
+    let no_failure : b.state.failure ≡ None = ap (λ (z : ControllerModel). z.state.failure) is ∙ (accepted_clean (at w f before) byte accepted on_then).0 in
+    let ends = ends_by_turn after 1032 b held.order on (left_at w f aw af h) enough none in
+    let waiting = ends.0 in
+    let rest = ends.1.0 in
+    let z = ends.1.1 in
+    let shown = shows b m name x s held.order waiting z.3 single z.2 no_failure z.4 (under b m name x s held.order waiting z.3) in
+    (waiting, (rest, (z.0, z.1, raised (runs b waiting) (busy_last b waiting z.3) shown.raises, shown.only, shown.whenever)))
+
+-- ---- the theorem
+pub round_trip : ScriptIsSheet
+unfolding ScriptIsSheet
+round_trip w f aw af history =
+    record {
+      same_bytes = same_bytes w f aw af history;
+      every_request = every_request w f aw af history;
+      clean_exactly_when = clean_exactly_when w f aw af history;
+      nothing_else_moves = nothing_else_moves w f aw af history;
+      busy_ends = busy_ends w f aw af history;
+    }
+
+-- so a run that hands back the definitions' answers, and continues every history, tells all that it has to
+pub tells : (old : ControllerModel) (calls : List Call) (given : List Answer) (new : ControllerModel) → given ≡ answers old calls → Continues old calls new → Tells old calls given new
+unfolding Tells ScriptIsSheet
+tells old calls given new every continues w f aw af history leads =
+    (continues w f history leads, subst (λ z. given ≡ answers z calls) (sym leads) every, round_trip w f aw af (history ++ calls))
