@@ -1,1 +1,4 @@
 pub mod Answers
+pub mod Board
+pub mod Runs
+pub mod Timed

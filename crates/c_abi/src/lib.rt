@@ -1,42 +1,11 @@
-// Entry points for C programs, by which the codes are measured against plain C.
+// Entry points for C programs, by which the codes and the controller are measured against plain C.
 //
-// Promised here: each is the library's own function, under a name that C can link.
+// Promised here: each entry of the codes is the library's own function, under a name that C can link. Each entry of the
+// controller makes one over images of the bytes that it is given, makes the calls that its definition names, answers what they
+// answer, and leaves in the bytes what the images then hold.
 #![tactic(auto)]
 
-ghost use Rattle.std.specs.Prelude.{◌≡◌};
-ghost use Rattle.sector.specs.declared.size.SizeCode.TheVariants.{Bytes512};
-ghost use Rattle.check_code.specs.Code.{crc_code, ecc_code, check_of};
-ghost use Rattle.burst.specs.Search.{first_burst};
-ghost use Rattle.c_abi.specs.Answers.{first_bit};
-
-use burst::find_burst;
-use check_code::{CheckCode, Crc, Ecc, remainder};
-use sector::SizeCode;
-
-// The CRC of some bytes. C has no generics, so each code has a function under a name of its own.
-#[unsafe(no_mangle)]
-pub extern "C" fn disk_crc(bytes: &[u8]) -> u32
-    ensures { result ≡ check_of crc_code bytes.now }
-{
-    remainder::<Crc>(Crc::START, bytes)
-}
-
-// The ECC of some bytes.
-#[unsafe(no_mangle)]
-pub extern "C" fn disk_ecc(bytes: &[u8]) -> u32
-    ensures { result ≡ check_of ecc_code bytes.now }
-{
-    remainder::<Ecc>(Ecc::START, bytes)
-}
-
-// The first bit of the burst that a difference tells of in a sector of 512 bytes, or FFFFh where none has it.
-#[unsafe(no_mangle)]
-pub extern "C" fn disk_burst(difference: u32) -> u16
-    ensures { result ≡ first_bit (first_burst Bytes512 difference) }
-{
-    // C has no options: a number that is no bit of the sector stands for none.
-    match find_burst(difference, SizeCode::Bytes512) {
-        Some(burst) => burst.first,
-        None => 0xffff,
-    }
-}
+mod answers;
+mod board;
+mod codes;
+mod timed;

@@ -19,4 +19,4 @@ last_amount c e0 n =
     ∙ xor_zero_r (enter c 0 1)
 
 pub examples : Examples
-examples = record { nine_digits = refl; crc_bit = last_amount crc_code refl; ecc_bit = last_amount ecc_code refl }
+examples = record { nine_digits = refl; nine_digits_ecc = refl; crc_bit = last_amount crc_code refl; ecc_bit = last_amount ecc_code refl }

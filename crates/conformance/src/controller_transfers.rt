@@ -418,10 +418,14 @@ const AMID: &[Step] = &[
     Step::Give(0, 127),
     Step::Run(0x20, 1),
     Step::Draw(0x9a, 128),
-    // what is aborted drops what was moving too: a Seek to C amid a Read
-    Step::Write(4, 3),
-    Step::Run(0x70, 0),
-    Step::Write(4, 0),
+    // a Format of 256 sectors, which is aborted, amid a Read
+    Step::Write(2, 0),
+    Step::Run(0x20, 1),
+    Step::Draw(0x9a, 1),
+    Step::Run(0x50, 0),
+    Step::Status(0x51, true),
+    Step::Fault(Some((1, 4, 0, 0, 0, 0))),
+    Step::NoRead(0, 3),
     Step::Write(7, 0x30),
     Step::Give(0x99, 128),
     Step::Turns(1),

@@ -3,6 +3,9 @@
 // through the same registers, under faults laid over the drive, and compared with the sheet line by line.
 //
 // Three arguments, if given, are the image's cylinders, heads and track capacity.
+//
+// Promised here: it is safe and ends. Each library call that it makes has a contract of its own; what it reads and prints is
+// tested on the sheet in `stdin`, against `stdout`.
 #![tactic(auto)]
 
 mod console;
@@ -40,8 +43,8 @@ fn floppy(heap: Global) -> Result<Bay<FloppyImage>, AllocError> {
 // Takes the sheet to the drive and the script from it, with one controller from first to last.
 fn run(rt: &HostRuntime) -> anyhow::Result<()> {
     let geometry = asked_for(rt)?;
-    let sheet = read_sheet(rt)?;
     let bay = winchester(rt, geometry)?;
+    let sheet = read_sheet(rt)?;
     let grid = Grid::from(geometry);
     let places = grid.places(rt.alloc(), sheet.len().div_ceil(RECORD))?;
     let mut damaged = FaultTable::over(bay);

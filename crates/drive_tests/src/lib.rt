@@ -1,4 +1,5 @@
-// Images in use: refusals at the edges of each range, tracks of every kind, and what attempts make of them.
+// Images in use: refusals at the edges of each range, tracks of every kind, and what attempts make of them. It has no code of its
+// own.
 #![tactic(auto)]
 
 #[cfg(test)]

@@ -32,9 +32,11 @@ pub struct FaultEntry {
     pub attempts: u16,
 }
 
-// Stands where a table has no entry yet, since ArrayVec asks for a value there. No kind of fault is the usual one, so it is not
-// derived.
+// Stands where a table has no entry yet, since ArrayVec asks for a value there: it covers no attempt. No kind of fault is the
+// usual one, so it is not derived.
 impl Default for FaultEntry {
+    ghost is_default = { λ entry. entry.attempts ≡ 0 };
+
     fn default() -> FaultEntry {
         FaultEntry {
             place: Place {

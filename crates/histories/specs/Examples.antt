@@ -77,6 +77,10 @@ pub record WorkedExamples : Type 0 where
   -- Restore from cylinder 3 ends on the fourth turn
   pub restore_busy : status (after (example_drive 0 3 [] undamaged) (Write 7 0x10 ∷ so_many 3 Turn)) ≡ Ok 0x80
   pub restore_ends : status (after (example_drive 0 3 [] undamaged) (Write 7 0x10 ∷ so_many 4 Turn)) ≡ Ok 0x50
+  -- Restore makes 1,024 steps at most: from so far out it ends well, and from one cylinder further with track 000; a drive has
+  -- fewer cylinders, so only the definitions come there
+  pub restore_from_afar : status (after (example_drive 0 1024 [] undamaged) (Write 7 0x10 ∷ so_many 1025 Turn)) ≡ Ok 0x50
+  pub restore_gives_up : read_answered (after (example_drive 0 1025 [] undamaged) (Write 7 0x10 ∷ so_many 1025 Turn)) 1 ≡ Ok 0x02
   -- count 0 and number 255 become 255 and 0 after one sector of a multiple read
   pub count_goes_down : read_answered (after (example_drive 0 0 (zero_sector crc_code 255 ∷ []) undamaged) (Write 3 255 ∷ Write 6 0x60 ∷ Write 7 0x24 ∷ Turn ∷ [])) 2 ≡ Ok 255
   pub number_goes_up : read_answered (after (example_drive 0 0 (zero_sector crc_code 255 ∷ []) undamaged) (Write 3 255 ∷ Write 6 0x60 ∷ Write 7 0x24 ∷ Turn ∷ [])) 3 ≡ Ok 0

@@ -7,7 +7,7 @@ use drive::Geometry;
 use std::env;
 
 // What is wrong with words that give no measures.
-const USAGE: &str = "usage: depot [CYLINDERS HEADS CAPACITY] < SHEET";
+const USAGE: &str = "usage: depot [CYLINDERS HEADS CAPACITY] < SHEET, at most 1024 8 65536";
 
 // The measures that words give, which are cylinders, heads and track capacity; where there are no words, 4 cylinders of 2
 // heads with room for 8 sectors of 512 bytes a track.

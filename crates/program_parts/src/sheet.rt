@@ -1,4 +1,8 @@
 // The sheet that comes in, and the script's comparison with it.
+ghost use Rattle.std.specs.Prelude.{◌≡◌, IfOk, None};
+ghost use Rattle.cue_sheet.specs.Lines.{differing_line};
+
+use anyhow::anyhow;
 use cue_sheet::{Comparison, count_lines};
 use std::io;
 use std::io::Read;
@@ -13,10 +17,16 @@ pub fn read_sheet(rt: &HostRuntime) -> io::Result<Vec<u8>> {
     Ok(sheet)
 }
 
-// Compares the script with the sheet, and tells the first line that differs.
-pub fn print_comparison(rt: &HostRuntime, sheet: &[u8], script: &[u8]) -> io::Result<()> {
+// Compares the script with the sheet, and tells the first line that differs; that one does is an error.
+pub fn print_comparison(rt: &HostRuntime, sheet: &[u8], script: &[u8]) -> anyhow::Result<()>
+    ensures { IfOk result (λ _. differing_line sheet.now script.now ≡ None) }
+{
     let lines = count_lines(script);
     println!(rt; "script: {lines} lines")?;
     let comparison = Comparison::of(sheet, script);
-    println!(rt; "{comparison}")
+    println!(rt; "{comparison}")?;
+    match comparison.first {
+        None => Ok(()),
+        Some(_) => Err(anyhow!("the script is not the sheet")),
+    }
 }

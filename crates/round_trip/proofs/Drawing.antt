@@ -79,3 +79,9 @@ pub draws_next : (b : ControllerModel) (m : ReadMode) (at : ℕ) → b.state.pha
     → answer_to b (call.Read 0) ≡ byte_read (slice_index (take (bytes_of (size_at b.state.registers.sdh)) b.state.buffer.bytes) at)
 unfolding read_answer_of
 draws_next b m at offering plain few = grind (arith, nat_tests, get_or-take)
+
+-- DRQ stays on where more bytes come
+pub draws_on : (b : ControllerModel) (m : ReadMode) (at : ℕ) → b.state.phase ≡ Offering m at → m.long ≡ false → at + 1 < bytes_of (size_at b.state.registers.sdh)
+    → drq (called b (call.Read 0)) ≡ true
+unfolding state_after_read drawn
+draws_on b m at offering plain more = grind (arith, nat_tests)

@@ -1,7 +1,9 @@
 -- The invariant of all histories, with what is noted of them, and that every call keeps it.
-use Rattle.std.proofs.Common.{◌≡◌, ℕ, ◌≤◌, Bool, true, false, cond, not, ◌&&◌, eqb, List, [], ◌∷◌, ◌++◌, length, Option, sym, refl, ap, ◌∙◌, subst, inl, Some, None, arith}
-use Rattle.std.proofs.lemmas.List.{length-take-le}
+use Rattle.std.proofs.Common.{◌≡◌, ℕ, zero, suc, ◌+◌, ◌*◌, ◌≤◌, min, lit≤, slice_index, Bool, true, false, cond, not, ◌&&◌, eqb, List, [], ◌∷◌, ◌++◌, length, take, Option, sym, refl, ap, ◌∙◌, subst, inl, Some, None, arith}
+use Rattle.std.proofs.lemmas.List.{length-take-le, get_or-take}
 use Rattle.std.proofs.lemmas.Bool.{not-true}
+use Rattle.sector.specs.declared.size.SizeCode.{SizeCode}
+use Rattle.sector.specs.declared.size.SizeCode.TheVariants.{Bytes256, Bytes512, Bytes1024, Bytes128}
 use Rattle.sector.specs.Sizes.{bytes_of}
 use Rattle.sector.proofs.Sizes.{bytes_most}
 use Rattle.drive.specs.Model.{DriveModel}
@@ -9,12 +11,13 @@ use Rattle.task_file.specs.declared.registers.Selection.{Selection}
 use Rattle.task_file.specs.declared.registers.Selection.TheVariants.{Winchester, Floppy}
 use Rattle.task_file.specs.declared.command.Command.{Command}
 use Rattle.task_file.specs.declared.state.Job.{Job}
-use Rattle.task_file.specs.declared.state.Job.TheVariants.{Write}
+use Rattle.task_file.specs.declared.state.Job.TheVariants.{Write, Format}
 use Rattle.task_file.specs.declared.state.Phase.{Phase}
 use Rattle.task_file.specs.declared.state.Phase.TheVariants.{Busy}
 use Rattle.task_file.specs.declared.state.State.{State}
-use Rattle.task_file.specs.Registers.{size_at, mode_at, selected}
+use Rattle.task_file.specs.Registers.{size_at, mode_at, selected, sector_count}
 use Rattle.task_file.specs.Moving.{put}
+use Rattle.task_file.specs.Attempts.{ids_of}
 use Rattle.task_file.specs.Commands.{command_of}
 use Rattle.task_file.specs.State.{is_busy, requests}
 use Rattle.controller.specs.Turns.{Turned, worked, without_drive}
@@ -30,7 +33,7 @@ use Rattle.round_trip.specs.Laws.{track_of, ADrive}
 use Rattle.round_trip.proofs.Sound.{Sound, Buffered, sound_drive}
 use Rattle.round_trip.proofs.Accessed as access
 use Rattle.round_trip.proofs.Kept.{TakenFits, Kept, news, taken_now, turn_taken, kept_same, kept_read, kept_put, kept_begun}
-use Rattle.round_trip.proofs.Turned.{Changes, Leaves, job_event, turned_result}
+use Rattle.round_trip.proofs.Turned.{Changes, Leaves, formatted_event, job_event, turned_result}
 use Rattle.round_trip.proofs.Ledgers.{LedgerHeld, track_same, ledger_same, FitsEvent, ledger_after}
 
 -- The invariant: in order; sound drives; a kept state; and each plain entry of the ledger stands on its track.
@@ -125,7 +128,21 @@ floppy_put : (bay : Bay) (n : Notes) (b : ControllerModel) (s : State) (d : Driv
 floppy_put winchester n b s d h z = h.floppy_sound
 floppy_put floppy n b s d h z = z
 
--- what is entered of a plain write is what the buffer holds
+-- the first pairs of some bytes are in as many bytes as they take
+ids_front : (xs : List ℕ) (n count : ℕ) → 2 * count ≤ n → ids_of (take n xs) count ≡ ids_of xs count
+ids_front xs n zero few = refl
+ids_front xs n (suc k) few =
+    let mark : slice_index (take n xs) (2 * k) ≡ slice_index xs (2 * k) = get_or-take n xs (2 * k) 0 (omega arith) in
+    let number : slice_index (take n xs) (2 * k + 1) ≡ slice_index xs (2 * k + 1) = get_or-take n xs (2 * k + 1) 0 (omega arith) in
+    rw (ids_front xs n k (omega arith), mark, number) refl
+
+bytes_least : (size : SizeCode) → 128 ≤ bytes_of size
+bytes_least Bytes256 = lit≤ tt
+bytes_least Bytes512 = lit≤ tt
+bytes_least Bytes1024 = lit≤ tt
+bytes_least Bytes128 = lit≤ tt
+
+-- what is entered of a plain write or a format is what the buffer holds
 event_fits : (bay : Bay) (b e : ControllerModel) (others : (t : TrackName) → same_bay t.bay bay ≡ false → track_of e t ≡ track_of b t) (n : Notes) (head : ℕ) (j : Job) → Held n b → b.state.phase ≡ Busy j
     → FitsEvent bay b e others b.state.buffer n.taken (job_event bay head b.state (drive_in bay b) j)
 event_fits bay b e others n head (Write j) h phase = fits_written _
@@ -137,6 +154,17 @@ event_fits bay b e others n head (Write j) h phase = fits_written _
         let few : size ≤ length b.state.buffer.bytes = omega (arith, bytes_most (size_at b.state.registers.sdh), h.kept.buffered.bytes_long) in
         (fit.0, fit.1, ap length (sym fit.0) ∙ length-take-le size b.state.buffer.bytes few)
     fits_written false = tt
+event_fits bay b e others n head Format h phase = fits_formatted _
+  where
+    count : ℕ
+    count = min (sector_count b.state.registers) 64
+
+    fits_formatted : (formatted : Bool) → FitsEvent bay b e others b.state.buffer n.taken (cond formatted (formatted_event bay head b.state) nothing)
+    fits_formatted true =
+        let size = size_at b.state.registers.sdh in
+        let fit : take (bytes_of size) b.state.buffer.bytes ≡ n.taken = subst (λ p. TakenFits p b.state.registers b.state.buffer n.taken) phase h.kept.fits in
+        subst (λ ys. ids_of ys count ≡ ids_of b.state.buffer.bytes count) fit (ids_front b.state.buffer.bytes (bytes_of size) count (omega (arith, bytes_least size)))
+    fits_formatted false = tt
 event_fits bay b e others n head j h phase = grind arith
 
 -- the event of a busy controller's turn is its job's

@@ -35,7 +35,7 @@ use Rattle.histories.specs.Working.{Counted}
 use Rattle.round_trip.proofs.Sound.{Buffered}
 
 -- ---- the invariant of the state
--- a plain write's bytes taken so far are the front of the buffer, and once all are taken their check bytes are there
+-- the bytes taken so far for a plain write or a format are the front of the buffer; once all of a write are taken their check bytes are there
 abbrev pub TakenFits : Phase → Registers → SectorBuffer → List ℕ → Type 0
 TakenFits Rest r b taken = Unit {0}
 TakenFits (Busy Test) r b taken = Unit {0}
@@ -44,10 +44,10 @@ TakenFits (Busy Seek) r b taken = Unit {0}
 TakenFits (Busy (Read j)) r b taken = Unit {0}
 TakenFits (Busy (Write j)) r b taken =
     j.mode.long ≡ false → (take (bytes_of (size_at r.sdh)) b.bytes ≡ taken) × (b.check ≡ check_bytes_of (code_of (mode_at r.sdh)) taken)
-TakenFits (Busy Format) r b taken = Unit {0}
+TakenFits (Busy Format) r b taken = take (bytes_of (size_at r.sdh)) b.bytes ≡ taken
 TakenFits (Offering m at) r b taken = Unit {0}
 TakenFits (Taking (Sector m) at) r b taken = m.long ≡ false → take at b.bytes ≡ taken
-TakenFits (Taking Track at) r b taken = Unit {0}
+TakenFits (Taking Track at) r b taken = take at b.bytes ≡ taken
 
 -- what is under way is the command in force
 abbrev pub Agrees : Phase → Option Command → Type 0

@@ -1,8 +1,9 @@
 -- The laws of same bytes and of clean reads, and the theorem whole.
-use Rattle.std.proofs.Common.{◌≡◌, ℕ, ◌<◌, true, false, not, ◌||◌, List, [], ◌∷◌, ◌++◌, take, is_some, None, sym, ap, ◌∙◌, subst, zero-add, arith, slice_index}
+use Rattle.std.proofs.Common.{◌≡◌, ℕ, ◌+◌, ◌<◌, true, false, not, ◌||◌, List, [], ◌∷◌, ◌++◌, length, take, is_some, None, sym, ap, ◌∙◌, subst, zero-add, arith, slice_index}
 use Rattle.std.proofs.lemmas.Bool.{and_parts, and_from}
 use Rattle.sector.specs.Sizes.{bytes_of}
 use Rattle.drive.specs.Model.{DriveModel}
+use Rattle.task_file.specs.declared.registers.Registers.{Registers}
 use Rattle.task_file.specs.declared.command.ReadMode.{ReadMode}
 use Rattle.task_file.specs.declared.state.Job.TheVariants.{Read}
 use Rattle.task_file.specs.declared.state.Phase.{Phase}
@@ -22,9 +23,9 @@ use Rattle.round_trip.specs.Laws.{PlainRead, BusyThroughout, DrqThroughout, NoRe
 use Rattle.round_trip.proofs.Held.{Held, held_at}
 use Rattle.round_trip.proofs.Ledgers.{WrittenThere}
 use Rattle.round_trip.proofs.Requests.{every_request}
-use Rattle.round_trip.proofs.Drawing.{drawing, draws_next}
+use Rattle.round_trip.proofs.Drawing.{drawing, draws_next, draws_on}
 use Rattle.round_trip.proofs.Showings.{readable_settles, settles_readable}
-use Rattle.round_trip.proofs.Waiting.{ends_by_turn, left_at, busy_last, busy_ends, nothing_else_moves}
+use Rattle.round_trip.proofs.Waiting.{brought_off, left_at, busy_last, busy_ends, nothing_else_moves}
 use Rattle.round_trip.proofs.Beginning.{accepted_clean, accepted_begins, begins_afresh, read_in_force}
 use Rattle.round_trip.proofs.Reading.{selects, Begins}
 use Rattle.round_trip.proofs.ReadLaws.{not_both, test_ends, first_tries, Under, way, reset, under_way, Ends, read, failed, ends}
@@ -64,16 +65,27 @@ starts n b m name x held a c is comes r =
     }
 
 -- ---- same bytes
+-- what a data read gives after others at a sector that was read
+record Gives (x : Writing) (e : ControllerModel) (cs : List Call) : Type 0 where
+  inside : drawn_in e cs < length x.bytes
+  answers : answer_to (runs e cs) (call.Read 0) ≡ byte_read (slice_index x.bytes (drawn_in e cs))
+  more : drawn_in e cs + 1 < length x.bytes → drq (called (runs e cs) (call.Read 0)) ≡ true
+
 -- once it was read, each byte drawn is the sector's
 drawn_is : (m : ReadMode) (x : Writing) (e : ControllerModel) → m.long ≡ false → InOrder e → e.state.phase ≡ Offering m 0 → take (bytes_of (size_at e.state.registers.sdh)) e.state.buffer.bytes ≡ x.bytes
-    → (drawing_calls : List Call) → DrqThroughout e drawing_calls → answer_to (runs e drawing_calls) (call.Read 0) ≡ byte_read (slice_index x.bytes (drawn_in e drawing_calls))
-drawn_is m x e plain order phase bytes cs on =
+    → length x.bytes ≡ bytes_of (size_at e.state.registers.sdh) → (drawing_calls : List Call) → DrqThroughout e drawing_calls → Gives x e drawing_calls
+drawn_is m x e plain order phase bytes long cs on =
     let d = drawing cs e m 0 phase on in
     let z = runs e cs in
     let off : z.state.phase ≡ Offering m (drawn_in e cs) = rw zero-add at d.phase in
     let few : drawn_in e cs < bytes_of (size_at z.state.registers.sdh) = rw plain at (subst (λ q. Counted q z.state.registers) off (order_runs e cs order).counted) in
     let same : take (bytes_of (size_at z.state.registers.sdh)) z.state.buffer.bytes ≡ x.bytes = rw (d.registers, d.buffer) bytes in
-    draws_next z m (drawn_in e cs) off plain few ∙ ap (λ ys. byte_read (slice_index ys (drawn_in e cs))) same
+    let all : length x.bytes ≡ bytes_of (size_at z.state.registers.sdh) = long ∙ ap (λ (r : Registers). bytes_of (size_at r.sdh)) (sym d.registers) in
+    record {
+      inside = subst (λ k. drawn_in e cs < k) (sym all) few;
+      answers = draws_next z m (drawn_in e cs) off plain few ∙ ap (λ ys. byte_read (slice_index ys (drawn_in e cs))) same;
+      more = λ less. draws_on z m (drawn_in e cs) off plain (subst (λ k. drawn_in e cs + 1 < k) all less);
+    }
 
 request_is_not_busy : (p : Phase) → requests p ≡ true → is_busy p ≡ false
 request_is_not_busy p asks = grind arith
@@ -93,17 +105,15 @@ module _ (b : ControllerModel) (m : ReadMode) (name : SectorName) (x : Writing) 
   order_offered = order_call e call.Turn (order_runs b waiting order)
 
   module _ (asks : drq offered ≡ true) (cs : List Call) (throughout : DrqThroughout offered cs) (clean : error (runs offered cs) ≡ false) where
-    abbrev Same : Type 0
-    Same = answer_to (runs offered cs) (call.Read 0) ≡ byte_read (slice_index x.bytes (drawn_in offered cs))
-
-    by_end : Ends b s.bay s.head m x s.begins offered → Same
+    by_end : Ends b s.bay s.head m x s.begins offered → Gives x offered cs
     by_end (read k few standing settled front failure phase sdh) =
-        drawn_is m x offered s.begins.plain order_offered phase (ap (λ z. take (bytes_of (size_at z)) offered.state.buffer.bytes) sdh ∙ front) cs throughout
+        drawn_is m x offered s.begins.plain order_offered phase (ap (λ z. take (bytes_of (size_at z)) offered.state.buffer.bytes) sdh ∙ front)
+        (s.begins.written.1 ∙ ap (λ z. bytes_of (size_at z)) (sym sdh)) cs throughout
     by_end (failed why failure offering asked) =
         let d = drawing cs offered m 0 (offering asks) throughout in
         not_both (error (runs offered cs)) (ap is_some d.failure ∙ failure) clean
 
-    same : Under b s.bay s.head m x s.begins waiting e → Same
+    same : Under b s.bay s.head m x s.begins waiting e → Gives x offered cs
     same (way k t) = by_end (ends b s.bay s.head m x s.begins k e t (request_is_not_busy offered.state.phase asks))
     same (reset not_none test) = not_both (drq offered) asks (ap requests (test_ends e test))
 
@@ -114,46 +124,51 @@ same_bytes w f aw af history before c waiting cs rest m name x split comes r on 
     let held = held_at w f aw af (before ++ (c ∷ [])) in
     let s = starts n b m name x held (at w f before) c (at_more w f before c) comes r in
     let asks = (and_parts (drq (called (runs b waiting) call.Turn)) _ raises).0 in
-    same b m name x s held.order waiting on asks cs throughout clean (under b m name x s held.order waiting on)
+    let gives = same b m name x s held.order waiting on asks cs throughout clean (under b m name x s held.order waiting on) in
+    (gives.inside, gives.answers, gives.more)
 
 -- ---- clean exactly when it can be
 module _ (b : ControllerModel) (m : ReadMode) (name : SectorName) (x : Writing) (s : Start b m name x) (order : InOrder b) (waiting : List Call) (on : BusyThroughout b waiting)
-    (single : m.multiple ≡ false) (none : NoReset waiting) (no_failure : b.state.failure ≡ None) (off : busy (called (runs b waiting) call.Turn) ≡ false) where
+    (single : m.multiple ≡ false) (no_failure : b.state.failure ≡ None) where
   abbrev here : SectorName
   here = sector_named s.bay s.head b.state.registers
-
-  abbrev bits : ℕ
-  bits = used_bits x.mode here
 
   abbrev after : ControllerModel
   after = called (runs b waiting) call.Turn
 
-  -- what the turn that raises DRQ shows
-  record Shows (at_sector : SectorName) : Type 0 where
-    raises : drq after ≡ true
-    only : error after ≡ false → StandsUnmarked b at_sector × Readable x.mode (used_bits x.mode at_sector) (outlook_at b at_sector)
-    whenever : StandsUnmarked b at_sector → Readable x.mode (used_bits x.mode at_sector) (outlook_at b at_sector) → error after ≡ false
+  module _ (asks : drq after ≡ true) where
+    -- what the turn that raises DRQ shows
+    record Shows (at_sector : SectorName) : Type 0 where
+      only : error after ≡ false → StandsUnmarked b at_sector × Readable x.mode (used_bits x.mode at_sector) (outlook_at b at_sector)
+      whenever : StandsUnmarked b at_sector → Readable x.mode (used_bits x.mode at_sector) (outlook_at b at_sector) → error after ≡ false
 
-  shows_by : Ends b s.bay s.head m x s.begins after → Shows here
-  shows_by (read k few standing settled front failure phase sdh) =
-      let off_error : error after ≡ false = ap is_some (failure ∙ no_failure) in
-      record {
-        raises = ap requests phase;
-        only = λ _. (standing, settles_readable x.mode here.size x.bytes s.begins.written.1 (outlook_at b here) s.begins.mild k few settled);
-        whenever = λ _ _. off_error;
-      }
-  shows_by (failed why failure offering asked) =
-      record {
-        raises = asked single;
-        only = λ clean. not_both (error after) failure clean;
-        whenever = λ standing readable.
-            let k = readable_settles x.mode here.size x.bytes s.begins.written.1 (outlook_at b here) readable in
-            absurd (why standing k.0 k.1.0 k.1.1);
-      }
+    shows_by : Ends b s.bay s.head m x s.begins after → Shows here
+    shows_by (read k few standing settled front failure phase sdh) =
+        let off_error : error after ≡ false = ap is_some (failure ∙ no_failure) in
+        record {
+          only = λ _. (standing, settles_readable x.mode here.size x.bytes s.begins.written.1 (outlook_at b here) s.begins.mild k few settled);
+          whenever = λ _ _. off_error;
+        }
+    shows_by (failed why failure offering asked) =
+        record {
+          only = λ clean. not_both (error after) failure clean;
+          whenever = λ standing readable.
+              let k = readable_settles x.mode here.size x.bytes s.begins.written.1 (outlook_at b here) readable in
+              absurd (why standing k.0 k.1.0 k.1.1);
+        }
 
-  shows : Under b s.bay s.head m x s.begins waiting (runs b waiting) → Shows name
-  shows (way k t) = subst Shows s.named (shows_by (ends b s.bay s.head m x s.begins k (runs b waiting) t off))
-  shows (reset not_none test) = absurd (not_none none)
+    shows : Under b s.bay s.head m x s.begins waiting (runs b waiting) → Shows name
+    shows (way k t) = subst Shows s.named (shows_by (ends b s.bay s.head m x s.begins k (runs b waiting) t (request_is_not_busy after.state.phase asks)))
+    shows (reset not_none test) = not_both (drq after) asks (ap requests (test_ends (runs b waiting) test))
+
+  -- a turn that turns BUSY off raises DRQ
+  asks_by : Ends b s.bay s.head m x s.begins after → drq after ≡ true
+  asks_by (read k few standing settled front failure phase sdh) = ap requests phase
+  asks_by (failed why failure offering asked) = asked single
+
+  asks_then : busy after ≡ false → NoReset waiting → Under b s.bay s.head m x s.begins waiting (runs b waiting) → drq after ≡ true
+  asks_then off none (way k t) = asks_by (ends b s.bay s.head m x s.begins k (runs b waiting) t off)
+  asks_then off none (reset not_none test) = absurd (not_none none)
 
 raised : (e : ControllerModel) → busy e ≡ true → drq (called e call.Turn) ≡ true → drq_comes_on e call.Turn ≡ true
 raised e on asks = and_from _ _ asks (idle e.state.phase on)
@@ -162,20 +177,23 @@ raised e on asks = and_from _ _ asks (idle e.state.phase on)
     idle p on = grind arith
 
 pub clean_exactly_when : (w f : DriveModel) → ADrive w → ADrive f → (history : List Call) → CleanExactlyWhen w f history
-clean_exactly_when w f aw af history before byte after m name x split accepted on r single none enough =
+clean_exactly_when w f aw af history before byte after m name x split accepted on r single =
     let h = before ++ (call.Write 7 byte ∷ []) in
     let b = at w f h in
     let held = held_at w f aw af h in
     let is = at_more w f before (call.Write 7 byte) in
     let on_then : busy (called (at w f before) (call.Write 7 byte)) ≡ true = ap busy (sym is) ∙ on in
     let s = starts (notes_of w f h) b m name x held (at w f before) (call.Write 7 byte) is (accepted_begins (at w f before) byte accepted on_then) r in
-    let no_failure : b.state.failure ≡ None = ap (λ (z : ControllerModel). z.state.failure) is ∙ (accepted_clean (at w f before) byte accepted on_then).0 in
-    let ends = ends_by_turn after 1032 b held.order on (left_at w f aw af h) enough none in
-    let waiting = ends.0 in
-    let rest = ends.1.0 in
-    let z = ends.1.1 in
-    let shown = shows b m name x s held.order waiting z.3 single z.2 no_failure z.4 (under b m name x s held.order waiting z.3) in
-    (waiting, (rest, (z.0, z.1, raised (runs b waiting) (busy_last b waiting z.3) shown.raises, shown.only, shown.whenever)))
+    let no_failure : b.state.failure ≡ None = ap (λ (z : ControllerModel). z.state.failure) is ∙ (accepted_clean (at w f before) byte accepted on_then).0 in (
+      (λ waiting rest parts throughout raises.
+          let asks = (and_parts (drq (called (runs b waiting) call.Turn)) _ raises).0 in
+          let shown = shows b m name x s held.order waiting throughout single no_failure asks (under b m name x s held.order waiting throughout) in
+          (shown.only, shown.whenever)),
+      (λ enough.
+          let z = brought_off after 1032 b held.order on (left_at w f aw af h) enough in
+          let asks = λ (none : NoReset z.waiting). asks_then b m name x s held.order z.waiting z.on single no_failure z.off none (under b m name x s held.order z.waiting z.on) in
+          (z.waiting, (z.rest, (z.split, z.few, z.on, λ none. raised (runs b z.waiting) (busy_last b z.waiting z.on) (asks none))))),
+    )
 
 -- ---- the theorem
 pub round_trip : ScriptIsSheet

@@ -9,7 +9,7 @@ use Rattle.check_code.specs.Mode.{code_of}
 use Rattle.drive.specs.declared.buffer.SectorBuffer.{SectorBuffer}
 use Rattle.drive.specs.Model.{Sector, no_sector, slot_of, blank_track, replaced}
 use Rattle.task_file.specs.declared.state.State.{State}
-use Rattle.task_file.specs.Attempts.{zero_check}
+use Rattle.task_file.specs.Attempts.{ids_of, zero_check}
 use Rattle.controller.specs.Model.{ControllerModel, with_state}
 use Rattle.round_trip.specs.Events.{Bay, same_bay, drive_in, TrackName, SectorName, same_track, same_sector, Event, nothing, sector_written, track_formatted}
 use Rattle.round_trip.specs.Ledger.{Writing, Ledger, numbered, entered}
@@ -52,7 +52,7 @@ module _ (bay : Bay) (b e : ControllerModel) (others : (t : TrackName) → same_
   FitsEvent buf taken nothing = Unit {0}
   FitsEvent buf taken (sector_written name mode plain) =
       plain ≡ true → (take (bytes_of name.size) buf.bytes ≡ taken) × (buf.check ≡ check_bytes_of (code_of mode) taken) × (length taken ≡ bytes_of name.size)
-  FitsEvent buf taken (track_formatted name ids size mode) = Unit {0}
+  FitsEvent buf taken (track_formatted name count size mode) = ids_of taken count ≡ ids_of buf.bytes count
 
   pub ledger_after : (buf : SectorBuffer) (taken : List ℕ) (l : Ledger) (event : Event) → Changes bay (drive_in bay b) (drive_in bay e) buf event → FitsEvent buf taken event → LedgerHeld b l → LedgerHeld e (entered event taken l)
   ledger_after buf taken l nothing change fits held name x is plain = ledger_same b e l (stays change) held name x is plain
@@ -80,13 +80,14 @@ module _ (bay : Bay) (b e : ControllerModel) (others : (t : TrackName) → same_
               | inr off ↦ (rw (after ∙ cond-false (same_track name.track other.track) new _ off) old.0, old.1)
             ]
       ]
-  ledger_after buf taken l (track_formatted name ids size mode) change fits held other x is plain =
+  ledger_after buf taken l (track_formatted name count size mode) change fits held other x is plain =
+      let ids = ids_of buf.bytes count in
       let new = blank_track ids size (zero_check mode size) in
       let after = tracks_replaced name new change.0 change.1 other.track in
       elim (cases_Bool (same_track name other.track)) [
         | inl on ↦
             let entry : record { bytes = replicate (bytes_of size) 0; mode = mode; plain = true } ≡ x = grind arith in
-            let numbered : numbered ids other.number ≡ true = grind arith in
+            let numbered : numbered ids other.number ≡ true = rw (← fits) (grind arith) in
             let same : size ≡ other.size = same_size_is size other.size (grind arith) in
             let stands = stands_formatted ids size (zero_check mode size) other.number numbered in
             (record { slot = stands.slot; found = grind arith; bytes_are = grind arith; check_are = grind arith }, grind (arith, length-replicate))
@@ -109,5 +110,5 @@ module _ (bay : Bay) (b e : ControllerModel) (others : (t : TrackName) → same_
             rw (on, ← before) (get_or-set_other track k i _ no_sector other)),
         rw (on, ← before) (length-set track k _),
       )
-  left_alone buf (track_formatted name ids size mode) change =
-      λ t off. tracks_replaced name (blank_track ids size (zero_check mode size)) change.0 change.1 t ∙ cond-false (same_track name t) _ _ off
+  left_alone buf (track_formatted name count size mode) change =
+      λ t off. tracks_replaced name (blank_track (ids_of buf.bytes count) size (zero_check mode size)) change.0 change.1 t ∙ cond-false (same_track name t) _ _ off

@@ -18,3 +18,4 @@ pub mod Reading
 pub mod Waiting
 pub mod ReadLaws
 pub mod Laws
+pub mod Examples

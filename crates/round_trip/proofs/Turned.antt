@@ -1,5 +1,5 @@
 -- A turn of a job on a drive: the drive stays sound, the state kept, and the tracks change as the event says.
-use Rattle.std.proofs.Common.{◌≡◌, ℕ, Bool, true, false, cond, not, ◌&&◌, eqb, ltb, List, [], take, Some, Option, sym, refl, subst, is_ok, Result, arith}
+use Rattle.std.proofs.Common.{◌≡◌, ℕ, min, Bool, true, false, cond, not, ◌&&◌, eqb, ltb, List, [], take, Some, Option, sym, refl, subst, is_ok, Result, arith}
 use Rattle.std.proofs.lemmas.Bool.{cond_both, eqb-true}
 use Rattle.sector.specs.Sizes.{bytes_of}
 use Rattle.drive.specs.declared.buffer.SectorBuffer.{SectorBuffer}
@@ -14,9 +14,9 @@ use Rattle.task_file.specs.declared.state.Job.{Job}
 use Rattle.task_file.specs.declared.state.Job.TheVariants.{Test, Restore, Seek, Read, Write, Format}
 use Rattle.task_file.specs.declared.state.Phase.TheVariants.{Busy}
 use Rattle.task_file.specs.declared.state.State.{State}
-use Rattle.task_file.specs.Registers.{cylinder_of, size_at, mode_at}
+use Rattle.task_file.specs.Registers.{cylinder_of, size_at, mode_at, sector_count}
 use Rattle.task_file.specs.State.{with_phase, with_buffer, ended, requests}
-use Rattle.task_file.specs.Attempts.{zero_check}
+use Rattle.task_file.specs.Attempts.{ids_of, zero_check}
 use Rattle.controller.specs.Turns.{Turned, turned, restore_turn, once_there, read_act, write_act, format_act, ids_asked, worked}
 use Rattle.round_trip.specs.Events.{track_named, sector_named, Bay, Event, nothing, sector_written, track_formatted}
 use Rattle.round_trip.proofs.Tracks.{rewritten_at}
@@ -35,8 +35,8 @@ Changes bay d e b (sector_written name mode plain) =
     (name.track.bay ≡ bay)
     × ((k : ℕ) × ((slot_of (d.track name.track.cylinder name.track.head) name.number name.size ≡ Some k)
     × ((c h : ℕ) → e.track c h ≡ replaced d.track name.track.cylinder name.track.head (rewritten_at (d.track name.track.cylinder name.track.head) k (take (bytes_of name.size) b.bytes) b.check) c h)))
-Changes bay d e b (track_formatted name ids size mode) =
-    (name.bay ≡ bay) × ((c h : ℕ) → e.track c h ≡ replaced d.track name.cylinder name.head (blank_track ids size (zero_check mode size)) c h)
+Changes bay d e b (track_formatted name count size mode) =
+    (name.bay ≡ bay) × ((c h : ℕ) → e.track c h ≡ replaced d.track name.cylinder name.head (blank_track (ids_of b.bytes count) size (zero_check mode size)) c h)
 
 -- ---- calls that leave the tracks
 unchanged_nearer : (d : DriveModel) (goal : ℕ) → Unchanged d (nearer d goal)
@@ -62,7 +62,7 @@ abbrev pub written_event : Bay → ℕ → State → WriteJob → Event
 written_event bay head s j = sector_written (sector_named bay head s.registers) (mode_at s.registers.sdh) (not j.mode.long)
 
 abbrev pub formatted_event : Bay → ℕ → State → Event
-formatted_event bay head s = track_formatted (track_named bay head s.registers) (ids_asked s) (size_at s.registers.sdh) (mode_at s.registers.sdh)
+formatted_event bay head s = track_formatted (track_named bay head s.registers) (min (sector_count s.registers) 64) (size_at s.registers.sdh) (mode_at s.registers.sdh)
 
 -- the same, by what the drive answers and whether the head is there
 abbrev pub write_event_by : Bool → Bay → ℕ → State → WriteJob → DriveModel → Event

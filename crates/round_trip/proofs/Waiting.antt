@@ -24,7 +24,7 @@ use Rattle.histories.proofs.Working.{left_in}
 use Rattle.histories.proofs.Orders.{head_in, left, turn_falls, order_call, none_left, Within, left_most}
 use Rattle.round_trip.specs.Events.{busy, Bay, winchester, floppy, drive_in, turn_event_on, event_of}
 use Rattle.round_trip.specs.Ledger.{Notes, notes_of}
-use Rattle.round_trip.specs.Laws.{BusyThroughout, turn_count, NoReset, LeftAlone, NothingElseMoves, BusyEnds, ADrive}
+use Rattle.round_trip.specs.Laws.{BusyThroughout, turn_count, LeftAlone, NothingElseMoves, BusyEnds, ADrive}
 use Rattle.round_trip.proofs.Ledgers.{track_same, left_alone}
 use Rattle.round_trip.proofs.Held.{Held, held_at, put_drive, event_is, job_turn, event_by, event_by_is, idle_event}
 
@@ -67,13 +67,6 @@ turns_joined (call.Read n ∷ cs) ds = turns_joined cs ds
 turns_joined (call.Write n byte ∷ cs) ds = turns_joined cs ds
 turns_joined (call.Turn ∷ cs) ds = omega (arith, turns_joined cs ds)
 turns_joined (call.Reset ∷ cs) ds = turns_joined cs ds
-
-pub no_reset_first : (cs ds : List Call) → NoReset (cs ++ ds) → NoReset cs
-no_reset_first [] ds none = tt
-no_reset_first (call.Read n ∷ cs) ds none = no_reset_first cs ds none
-no_reset_first (call.Write n byte ∷ cs) ds none = no_reset_first cs ds none
-no_reset_first (call.Turn ∷ cs) ds none = no_reset_first cs ds none
-no_reset_first (call.Reset ∷ cs) ds none = absurd none
 
 -- ---- a turn brings BUSY off
 -- whatever the interrupt, as many turns are left
@@ -134,14 +127,6 @@ brought_off (call.Reset ∷ cs) n b o on few enough =
     let some = some_left b o on in
     let as_few : left (called b call.Reset) ≤ n = omega arith in
     one_more b call.Reset n n cs on (λ w h. h) (brought_off cs n (called b call.Reset) (order_call b call.Reset o) refl as_few enough)
-
--- the same of calls with no reset
-pub ends_by_turn : (cs : List Call) (n : ℕ) (b : ControllerModel) → InOrder b → busy b ≡ true → left b ≤ n → n ≤ turn_count cs → NoReset cs
-    → (waiting : List Call) × ((rest : List Call) × ((cs ≡ waiting ++ (call.Turn ∷ rest)) × (turn_count waiting < n) × NoReset waiting
-    × BusyThroughout b waiting × (busy (called (runs b waiting) call.Turn) ≡ false)))
-ends_by_turn cs n b o on few enough none =
-    let f = brought_off cs n b o on few enough in
-    (f.waiting, (f.rest, (f.split, f.few, no_reset_first f.waiting (call.Turn ∷ f.rest) (subst NoReset f.split none), f.on, f.off)))
 
 -- ---- BUSY ends
 -- some calls after which BUSY is off, with at most n turns

@@ -1,9 +1,8 @@
 -- What a call does that a host, or a reader of the disks, can tell.
-use Rattle.std.specs.Prelude.{ℕ, Bool, true, false, cond, not, ◌&&◌, ◌||◌, List, is_some, Some, None, Ok, Err, Option, is_ok, ◌==◌}
+use Rattle.std.specs.Prelude.{ℕ, min, Bool, true, false, cond, not, ◌&&◌, ◌||◌, is_some, Some, None, Ok, Err, Option, is_ok, ◌==◌}
 use Rattle.sector.specs.declared.size.SizeCode.{SizeCode}
 use Rattle.sector.specs.Sizes.{number_of}
 use Rattle.check_code.specs.declared.mode.CheckMode.{CheckMode}
-use Rattle.drive.specs.declared.answers.SectorId.{SectorId}
 use Rattle.drive.specs.Model.{DriveModel}
 use Rattle.drive.specs.Calls.{write_answer, format_answer}
 use Rattle.task_file.specs.declared.registers.Registers.{Registers}
@@ -13,7 +12,7 @@ use Rattle.task_file.specs.declared.state.WriteJob.{WriteJob}
 use Rattle.task_file.specs.declared.state.Job.TheVariants.{Test, Restore, Seek, Read, Write, Format}
 use Rattle.task_file.specs.declared.state.Phase.{Phase}
 use Rattle.task_file.specs.declared.state.Phase.TheVariants.{Rest, Busy, Offering, Taking}
-use Rattle.task_file.specs.Registers.{cylinder_of, size_at, mode_at, selected}
+use Rattle.task_file.specs.Registers.{cylinder_of, size_at, mode_at, selected, sector_count}
 use Rattle.task_file.specs.State.{is_busy, requests}
 use Rattle.controller.specs.Turns.{ids_asked}
 use Rattle.controller.specs.Model.{ControllerModel}
@@ -102,8 +101,8 @@ pub data Event : Type 0 where
   nothing : Event
   -- the sector, the check mode, and whether plain
   sector_written : SectorName → CheckMode → Bool → Event
-  -- the track, and its new sectors' IDs, size code and check mode
-  track_formatted : TrackName → List SectorId → SizeCode → CheckMode → Event
+  -- the track, how many new sectors it has, and their size code and check mode
+  track_formatted : TrackName → ℕ → SizeCode → CheckMode → Event
 
 -- a write attempt is made on the turn that finds the cylinder, and replaces the sector where the drive answers so
 abbrev pub write_event : WriteJob → Bay → ℕ → ControllerModel → Event
@@ -114,13 +113,13 @@ write_event j bay head b =
     (sector_written (sector_named bay head r) (mode_at r.sdh) (not j.mode.long))
     nothing
 
--- likewise a format
+-- likewise a format; one of more than 64 sectors is aborted
 abbrev pub format_event : Bay → ℕ → ControllerModel → Event
 format_event bay head b =
     let r = b.state.registers in
     cond
     ((drive_in bay b).cylinder == cylinder_of r && is_ok (format_answer (drive_in bay b) head (ids_asked b.state) (size_at r.sdh)))
-    (track_formatted (track_named bay head r) (ids_asked b.state) (size_at r.sdh) (mode_at r.sdh))
+    (track_formatted (track_named bay head r) (min (sector_count r) 64) (size_at r.sdh) (mode_at r.sdh))
     nothing
 
 abbrev pub turn_event_on : Phase → Bay → ℕ → ControllerModel → Event

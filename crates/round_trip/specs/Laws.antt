@@ -26,7 +26,7 @@ use Rattle.round_trip.specs.Ledger.{Writing, Notes, notes_of}
 abbrev pub used_bits : CheckMode → SectorName → ℕ
 used_bits mode name = 8 * bytes_of name.size + width (code_of mode)
 
--- at most one burst is wrong among the first `bits`
+-- of the first `bits` none is wrong, or those that are make one burst
 abbrev pub Mild : ℕ → Showing → Type 0
 Mild bits no_id = Unit {0}
 Mild bits no_data_mark = Unit {0}
@@ -38,7 +38,7 @@ Intact bits no_id = ⊥
 Intact bits no_data_mark = ⊥
 Intact bits (wrong_bits w) = (i : ℕ) → i < bits → w i ≡ false
 
--- two attempts show the same burst
+-- two attempts show the same burst among the first `bits`
 abbrev pub SameBurst : ℕ → Showing → Showing → Type 0
 SameBurst bits no_id s = ⊥
 SameBurst bits no_data_mark s = ⊥
@@ -71,7 +71,7 @@ pub record PlainRead (b : ControllerModel) (n : Notes) (m : ReadMode) (name : Se
   pub same_mode : x.mode ≡ mode_at b.state.registers.sdh
   pub mild : (k : ℕ) → k < 9 → Mild (used_bits x.mode name) (outlook_at b name k)
 
--- its sector stands unmarked on the track
+-- the sector stands on its track, and has no bad mark
 abbrev pub StandsUnmarked : ControllerModel → SectorName → Type 0
 StandsUnmarked b name =
     let track = (drive_in name.track.bay b).track name.track.cylinder name.track.head in
@@ -82,7 +82,7 @@ abbrev pub Neighbours : CheckMode → ℕ → (ℕ → Showing) → Type 0
 Neighbours Crc bits shows = ⊥
 Neighbours Ecc bits shows = (k : ℕ) × ((k < 8) × SameBurst bits (shows k) (shows (k + 1)))
 
--- of the next nine attempts one is intact, or two neighbours show the same burst
+-- of the next nine attempts one is intact or, under ECC, two neighbours show the same burst
 abbrev pub Readable : CheckMode → ℕ → (ℕ → Showing) → Type 0
 Readable mode bits shows = ((k : ℕ) × ((k < 9) × Intact bits (shows k))) ⊎ Neighbours mode bits shows
 
@@ -131,7 +131,7 @@ NoReset (call.Reset ∷ cs) = ⊥
 
 -- ---- the laws, each of a history from the making over two drives
 -- Same bytes. BUSY comes on for a sector of a plain read and stays on until a turn raises DRQ. With Error off, a data read
--- that comes after i others since then answers byte i of the sector's last writing.
+-- that comes after i others since then answers byte i of the sector's last writing, and DRQ stays on unless it was the last.
 abbrev pub SameBytes : DriveModel → DriveModel → List Call → Type 0
 SameBytes w f history =
     (before : List Call) (c : Call) (waiting drawing rest : List Call) (m : ReadMode) (name : SectorName) (x : Writing)
@@ -144,7 +144,9 @@ SameBytes w f history =
     → drq_comes_on (runs b waiting) call.Turn ≡ true
     → DrqThroughout offered drawing
     → error (runs offered drawing) ≡ false
-    → answer_to (runs offered drawing) (call.Read 0) ≡ byte_read (slice_index x.bytes (drawn_in offered drawing))
+    → (drawn_in offered drawing < length x.bytes)
+    × (answer_to (runs offered drawing) (call.Read 0) ≡ byte_read (slice_index x.bytes (drawn_in offered drawing)))
+    × (drawn_in offered drawing + 1 < length x.bytes → drq (called (runs offered drawing) (call.Read 0)) ≡ true)
 
 -- BUSY came on under a read, and is on since: some calls, the one that turned it on, and the calls from there to now.
 pub record BusySince (w f : DriveModel) (history : List Call) (m : ReadMode) : Type 0 where
@@ -165,8 +167,9 @@ EveryRequest w f history =
     → (notes_of w f (before ++ (c ∷ []))).in_force ≡ Some (Read m)
     → (c ≡ call.Turn) × BusySince w f before m
 
--- Clean exactly when it can be. A plain single-sector read that is accepted and not aborted raises DRQ by the 1,032nd
--- turn, unless a reset comes first; Error is then off exactly when its sector stands unmarked and is readable.
+-- Clean exactly when it can be. Of a plain single-sector read that is accepted and not aborted: where a turn raises DRQ, with
+-- BUSY on until then, Error is off exactly when the sector stands unmarked and is readable; and one of the first 1,032 turns
+-- does, unless a reset comes first.
 abbrev pub CleanExactlyWhen : DriveModel → DriveModel → List Call → Type 0
 CleanExactlyWhen w f history =
     (before : List Call) (byte : ℕ) (after : List Call) (m : ReadMode) (name : SectorName) (x : Writing)
@@ -176,12 +179,12 @@ CleanExactlyWhen w f history =
     → busy b ≡ true
     → PlainRead b (notes_of w f (before ++ (call.Write 7 byte ∷ []))) m name x
     → m.multiple ≡ false
-    → NoReset after
-    → 1032 ≤ turn_count after
-    → (waiting : List Call) × ((rest : List Call) × ((after ≡ waiting ++ (call.Turn ∷ rest)) × (turn_count waiting < 1032)
-    × (drq_comes_on (runs b waiting) call.Turn ≡ true)
-    × (error (called (runs b waiting) call.Turn) ≡ false → StandsUnmarked b name × Readable x.mode (used_bits x.mode name) (outlook_at b name))
-    × (StandsUnmarked b name → Readable x.mode (used_bits x.mode name) (outlook_at b name) → error (called (runs b waiting) call.Turn) ≡ false)))
+    → ((waiting rest : List Call) → after ≡ waiting ++ (call.Turn ∷ rest) → BusyThroughout b waiting → drq_comes_on (runs b waiting) call.Turn ≡ true
+    → (error (called (runs b waiting) call.Turn) ≡ false → StandsUnmarked b name × Readable x.mode (used_bits x.mode name) (outlook_at b name))
+    × (StandsUnmarked b name → Readable x.mode (used_bits x.mode name) (outlook_at b name) → error (called (runs b waiting) call.Turn) ≡ false))
+    × (1032 ≤ turn_count after
+    → (waiting : List Call) × ((rest : List Call) × ((after ≡ waiting ++ (call.Turn ∷ rest)) × (turn_count waiting < 1032) × BusyThroughout b waiting
+    × (NoReset waiting → drq_comes_on (runs b waiting) call.Turn ≡ true))))
 
 -- a track of one of the drives
 abbrev pub track_of : ControllerModel → TrackName → List Sector
@@ -194,7 +197,7 @@ LeftAlone (sector_written name mode plain) b e =
     ((t : TrackName) → same_track name.track t ≡ false → track_of e t ≡ track_of b t)
     × ((k : ℕ) → (slot_of (track_of b name.track) name.number name.size ≢ Some k) → slice_index_or (track_of e name.track) k no_sector ≡ slice_index_or (track_of b name.track) k no_sector)
     × (length (track_of e name.track) ≡ length (track_of b name.track))
-LeftAlone (track_formatted name ids size mode) b e = (t : TrackName) → same_track name t ≡ false → track_of e t ≡ track_of b t
+LeftAlone (track_formatted name count size mode) b e = (t : TrackName) → same_track name t ≡ false → track_of e t ≡ track_of b t
 
 -- Nothing else moves: a call leaves every sector alone but the one being written or those of the track being formatted.
 abbrev pub NothingElseMoves : DriveModel → DriveModel → List Call → Type 0
@@ -216,7 +219,8 @@ pub record RoundTrip (w f : DriveModel) (history : List Call) : Type 0 where
   pub nothing_else_moves : NothingElseMoves w f history
   pub busy_ends : BusyEnds w f history
 
--- a drive with the meaning of a drive: at most 1,024 cylinders and 8 heads, its head on one of them, whole sectors on its tracks
+-- A drive with the meaning of a drive: 1 to 1,024 cylinders and 1 to 8 heads, its head on one of the cylinders, on each
+-- track at most 64 sectors, each of them whole, and no sector elsewhere.
 abbrev pub ADrive : DriveModel → Type 0
 ADrive d = Bounded (record { cylinders = 1024; heads = 8 }) d
 

@@ -7,6 +7,7 @@ use Rattle.drive.specs.Model.{DriveModel}
 use Rattle.drive.specs.Search.{first_match}
 use Rattle.task_file.specs.declared.command.Command.{Command}
 use Rattle.task_file.specs.Commands.{command_of}
+use Rattle.task_file.specs.Attempts.{ids_of}
 use Rattle.controller.specs.Model.{ControllerModel, made}
 use Rattle.histories.specs.declared.call.Call.{Call}
 use Rattle.histories.specs.declared.call.Call.TheVariants as call
@@ -30,14 +31,15 @@ empty_ledger s = None
 abbrev pub numbered : List SectorId → ℕ → Bool
 numbered ids number = is_some (first_match (λ id. nat_eq id.number number) ids)
 
--- A written sector is entered with the bytes taken. A format strikes out its track's entries, and enters zeros, plain, for each number.
+-- A written sector is entered with the bytes taken. A format strikes out its track's entries, and enters zeros, plain, for
+-- each number that the bytes taken give.
 abbrev pub entered : Event → List ℕ → Ledger → Ledger
 entered nothing taken l s = l s
 entered (sector_written name mode plain) taken l s =
     cond (same_sector name s) (Some (record { bytes = taken; mode = mode; plain = plain })) (l s)
-entered (track_formatted name ids size mode) taken l s =
+entered (track_formatted name count size mode) taken l s =
     cond (same_track name s.track)
-    (cond (numbered ids s.number && same_size size s.size) (Some (record { bytes = replicate (bytes_of size) 0; mode = mode; plain = true })) None)
+    (cond (numbered (ids_of taken count) s.number && same_size size s.size) (Some (record { bytes = replicate (bytes_of size) 0; mode = mode; plain = true })) None)
     (l s)
 
 -- ---- along a history

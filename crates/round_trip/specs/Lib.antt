@@ -1,3 +1,4 @@
 pub mod Events
 pub mod Ledger
 pub mod Laws
+pub mod Examples

@@ -2,11 +2,12 @@
 // on, over all drives.
 //
 // Promised here: what is read is what was last written, or the controller says that it could not be read; a read is clean
-// exactly when it can be; no call moves another sector; and BUSY ends.
+// exactly when it can be; no call changes a sector but the one that it writes, or those of the track that it formats; and BUSY
+// goes off. Every make's drives are under it, and an example meets its premises.
 #![tactic(auto)]
 
 mod running;
 mod theorem;
 
 pub use running::run;
-pub use theorem::round_trip_stands;
+pub use theorem::{example_stands, makes_are_drives, round_trip_stands};

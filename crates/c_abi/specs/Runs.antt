@@ -1,0 +1,64 @@
+-- Calls as C gives them, and their answers as C is told them.
+use Rattle.std.specs.Prelude.{ℕ, cond, Bool, List, [], ◌∷◌, Some, None, Ok, Err, Option, ◌==◌}
+use Rattle.task_file.specs.declared.failure.Fault.{Fault}
+use Rattle.task_file.specs.Failures.{last_fault}
+use Rattle.task_file.specs.State.{is_busy, requests}
+use Rattle.controller.specs.Access.{refusal_number}
+use Rattle.controller.specs.Model.{ControllerModel}
+use Rattle.histories.specs.declared.call.Call.{Call}
+use Rattle.histories.specs.declared.call.Call.TheVariants.{Read, Write, Turn, Reset}
+use Rattle.histories.specs.Runs.{Answer, answer_to, called}
+use Rattle.c_abi.specs.declared.answers.PlainCall.{PlainCall}
+use Rattle.c_abi.specs.declared.answers.PlainAnswer.{PlainAnswer}
+
+-- a read, a write or a turn by its number, and by any other a master reset
+abbrev pub call_of : PlainCall → Call
+call_of c = cond (c.kind == 0) (Read c.number) (cond (c.kind == 1) (Write c.number c.byte) (cond (c.kind == 2) Turn Reset))
+
+-- ---- what C is told
+-- the refusal's number, or 0
+abbrev pub refusal_in : Answer → ℕ
+refusal_in (Ok _) = 0
+refusal_in (Err why) = refusal_number why
+
+-- the byte that was read, or 0
+abbrev pub byte_in : Answer → ℕ
+byte_in (Ok (Some byte)) = byte
+byte_in (Ok None) = 0
+byte_in (Err why) = 0
+
+-- zeros where there is no last fault
+abbrev pub fault_or_zeros : Option Fault → Fault
+fault_or_zeros (Some f) = f
+fault_or_zeros None = record { layer = 0; error = 0; cylinder = 0; head = 0; number = 0; attempts = 0 }
+
+abbrev pub told : Answer → Bool → Bool → Bool → Fault → PlainAnswer
+told a drq intrq busy f =
+    record {
+      refusal = refusal_in a;
+      byte = byte_in a;
+      drq = drq;
+      intrq = intrq;
+      busy = busy;
+      layer = f.layer;
+      error = f.error;
+      head = f.head;
+      number = f.number;
+      attempts = f.attempts;
+      cylinder = f.cylinder;
+    }
+
+-- an answer, and what the controller shows once it is given
+abbrev pub shown : ControllerModel → Answer → PlainAnswer
+shown b a = told a (requests b.state.phase) b.state.intrq (is_busy b.state.phase) (fault_or_zeros (last_fault b.state.failure))
+
+-- ---- many calls
+-- what C is told of each
+unfoldable pub all_shown : ControllerModel → List PlainCall → List PlainAnswer
+all_shown b [] = []
+all_shown b (c ∷ cs) = shown (called b (call_of c)) (answer_to b (call_of c)) ∷ all_shown (called b (call_of c)) cs
+
+-- where they lead
+unfoldable pub run_of : ControllerModel → List PlainCall → ControllerModel
+run_of b [] = b
+run_of b (c ∷ cs) = run_of (called b (call_of c)) cs

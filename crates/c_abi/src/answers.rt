@@ -1,0 +1,129 @@
+// Lists of calls on a board, with every answer.
+ghost use Rattle.std.specs.Prelude.{◌≡◌, IfOk, if◌then◌else◌};
+ghost use Rattle.controller.specs.Model.{model_of};
+ghost use Rattle.c_abi.specs.Board.{board_model, fitting};
+ghost use Rattle.c_abi.specs.Runs.{call_of, shown, all_shown, run_of};
+
+use super::board::{ImageMeasures, PlainFault, board, give_back, replace};
+use controller::Controller;
+use drive::Drive;
+use histories::{Answer, Call, make_call};
+use std::alloc::{AllocError, Global};
+
+// A call, as C gives it: a read of a register, a write to one, a turn, or a master reset.
+#[repr(C)]
+#[derive(Clone, Copy)]
+pub struct PlainCall {
+    pub kind: u8,
+    pub number: u8,
+    pub byte: u8,
+}
+
+// What a call answers, and what the controller shows once it is made.
+#[repr(C)]
+#[derive(Clone, Copy)]
+pub struct PlainAnswer {
+    pub refusal: u8,
+    pub byte: u8,
+    pub drq: bool,
+    pub intrq: bool,
+    pub busy: bool,
+    pub layer: u8,
+    pub error: u8,
+    pub head: u8,
+    pub number: u8,
+    pub attempts: u8,
+    pub cylinder: u16,
+}
+
+impl PlainCall {
+    fn call(self) -> Call
+        ensures { result ≡ call_of self }
+    {
+        match self.kind {
+            0 => Call::Read(self.number),
+            1 => Call::Write(self.number, self.byte),
+            2 => Call::Turn,
+            _ => Call::Reset,
+        }
+    }
+}
+
+// What C is told of an answer.
+fn tell<W: Drive, F: Drive>(controller: &Controller<W, F>, answer: Answer) -> PlainAnswer
+    ensures { result ≡ shown (model_of W.meaning F.meaning controller.now) answer }
+{
+    let (refusal, byte) = match answer {
+        Ok(Some(byte)) => (0, byte),
+        Ok(None) => (0, 0),
+        Err(why) => (u8::from(why), 0),
+    };
+    let lines = controller.lines();
+    let fault = controller.last_fault().unwrap_or_default();
+    PlainAnswer {
+        refusal,
+        byte,
+        drq: lines.drq,
+        intrq: lines.intrq,
+        busy: controller.is_busy(),
+        layer: fault.layer,
+        error: fault.error,
+        head: fault.head,
+        number: fault.number,
+        attempts: fault.attempts,
+        cylinder: fault.cylinder,
+    }
+}
+
+// Makes the calls, and tells of each.
+#[tactic(auto, using(crate::proofs::Shown::steps))]
+fn all_answers<W: Drive, F: Drive>(
+    controller: &mut Controller<W, F>,
+    heap: Global,
+    calls: &[PlainCall],
+) -> Result<Vec<PlainAnswer>, AllocError>
+    ensures answers { IfOk result (λ v. v.items ≡ all_shown (model_of W.meaning F.meaning controller.old) calls.now) }
+    ensures after { IfOk result (λ _. model_of W.meaning F.meaning controller.new ≡ run_of (model_of W.meaning F.meaning controller.old) calls.now) }
+{
+    let mut answers = Vec::with_capacity(heap, calls.len())?;
+    for call in calls {
+        let answer = make_call(controller, call.call());
+        answers.push(tell(controller, answer))?;
+    }
+    Ok(answers)
+}
+
+// Makes the calls on a board that is made now, over images with these bytes; false where memory is wanting.
+#[unsafe(no_mangle)]
+pub extern "C" fn disk_answers(
+    heap: Global,
+    winchester: &ImageMeasures,
+    winchester_bytes: &mut [u8],
+    floppy: &ImageMeasures,
+    floppy_bytes: &mut [u8],
+    faults: &[PlainFault],
+    calls: &[PlainCall],
+    answers: &mut [PlainAnswer],
+) -> bool
+    ensures answers { answers.new ≡ (if result then fitting (all_shown (board_model winchester.now winchester_bytes.old faults.now floppy.now floppy_bytes.old) calls.now) answers.old else answers.old) }
+    ensures winchester { winchester_bytes.new ≡ (if result then fitting (run_of (board_model winchester.now winchester_bytes.old faults.now floppy.now floppy_bytes.old) calls.now).winchester.memory winchester_bytes.old else winchester_bytes.old) }
+    ensures floppy { floppy_bytes.new ≡ (if result then fitting (run_of (board_model winchester.now winchester_bytes.old faults.now floppy.now floppy_bytes.old) calls.now).floppy.memory floppy_bytes.old else floppy_bytes.old) }
+{
+    let made = board(
+        heap,
+        *winchester,
+        winchester_bytes,
+        faults,
+        *floppy,
+        floppy_bytes,
+    );
+    let Ok(mut controller) = made else {
+        return false;
+    };
+    let Ok(told) = all_answers(&mut controller, heap, calls) else {
+        return false;
+    };
+    replace(answers, &told);
+    give_back(controller, winchester_bytes, floppy_bytes);
+    true
+}

@@ -1,0 +1,102 @@
+// Single calls on a controller, and the sum of their answers.
+ghost use Rattle.std.specs.Prelude.{◌≡◌};
+ghost use Rattle.controller.specs.Model.{model_of, read_answered, after_register_read, write_answered, after_register_write};
+ghost use Rattle.rounds.specs.Rounds.{heard, with_number, drawn, given, turned, read, write};
+
+use controller::{Controller, Refusal};
+use drive::Drive;
+use task_file::Register;
+
+// A register read as a bus makes it, by a call of its own.
+#[inline(never)]
+fn access_read<W: Drive, F: Drive>(
+    controller: &mut Controller<W, F>,
+    number: u8,
+) -> Result<u8, Refusal>
+    ensures answer { result ≡ read_answered (model_of W.meaning F.meaning controller.old) number }
+    ensures after { model_of W.meaning F.meaning controller.new ≡ after_register_read (model_of W.meaning F.meaning controller.old) number }
+{
+    controller.read_register(number)
+}
+
+// A register write, likewise.
+#[inline(never)]
+fn access_write<W: Drive, F: Drive>(
+    controller: &mut Controller<W, F>,
+    number: u8,
+    byte: u8,
+) -> Result<(), Refusal>
+    ensures answer { result ≡ write_answered (model_of W.meaning F.meaning controller.old) number byte }
+    ensures after { model_of W.meaning F.meaning controller.new ≡ after_register_write (model_of W.meaning F.meaning controller.old) number byte }
+{
+    controller.write_register(number, byte)
+}
+
+// One more number in a sum of 32 bits.
+fn with_number(sum: u32, number: u8) -> u32
+    ensures { result ≡ with_number sum number }
+{
+    sum.wrapping_mul(31).wrapping_add(u32::from(number))
+}
+
+// A register read, and the sum with its answer.
+pub fn read<W: Drive, F: Drive>(controller: &mut Controller<W, F>, number: u8, sum: u32) -> u32
+    ensures { heard (model_of W.meaning F.meaning controller.new) result ≡ read number (heard (model_of W.meaning F.meaning controller.old) sum) }
+{
+    match access_read(controller, number) {
+        Ok(byte) => with_number(sum, byte),
+        Err(why) => with_number(sum, u8::from(why)),
+    }
+}
+
+// A register write, and the sum with its answer.
+pub fn write<W: Drive, F: Drive>(
+    controller: &mut Controller<W, F>,
+    number: u8,
+    byte: u8,
+    sum: u32,
+) -> u32
+    ensures { heard (model_of W.meaning F.meaning controller.new) result ≡ write number byte (heard (model_of W.meaning F.meaning controller.old) sum) }
+{
+    match access_write(controller, number, byte) {
+        Ok(()) => with_number(sum, 0),
+        Err(why) => with_number(sum, u8::from(why)),
+    }
+}
+
+// So many reads of the data register.
+pub fn draw<W: Drive, F: Drive>(controller: &mut Controller<W, F>, count: u16, start: u32) -> u32
+    ensures { heard (model_of W.meaning F.meaning controller.new) result ≡ drawn count (heard (model_of W.meaning F.meaning controller.old) start) }
+{
+    let mut sum = start;
+    for _at in 0..count {
+        sum = read(controller, u8::from(Register::Data), sum);
+    }
+    sum
+}
+
+// So many writes to the data register.
+pub fn give<W: Drive, F: Drive>(
+    controller: &mut Controller<W, F>,
+    number: u8,
+    count: u16,
+    start: u32,
+) -> u32
+    ensures { heard (model_of W.meaning F.meaning controller.new) result ≡ given number count (heard (model_of W.meaning F.meaning controller.old) start) }
+{
+    let mut sum = start;
+    for at in 0..count {
+        let byte = ((at % 256) as u8).wrapping_add(number);
+        sum = write(controller, u8::from(Register::Data), byte, sum);
+    }
+    sum
+}
+
+// So many turns, of which nothing is heard.
+pub fn take_turns<W: Drive, F: Drive>(controller: &mut Controller<W, F>, count: u8, sum: u32)
+    ensures { heard (model_of W.meaning F.meaning controller.new) sum ≡ turned count (heard (model_of W.meaning F.meaning controller.old) sum) }
+{
+    for _turn in 0..count {
+        controller.turn();
+    }
+}
