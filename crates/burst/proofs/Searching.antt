@@ -1,8 +1,10 @@
 -- The search: what one register tells of one candidate, what the loops know, and what the first burst is.
-use Rattle.std.proofs.Common.{◌≡◌, ℕ, suc, ◌+◌, ◌-◌, ◌*◌, ◌/◌, ◌%◌, ◌^◌, ◌<◌, ◌≤◌, eqb, Some, None, sym, ap, ◌∙◌, subst, ⊎_elim, mod-lt, arith, lit≤, pow_pos}
+use Rattle.std.proofs.Common.{◌≡◌, ℕ, zero, suc, ◌+◌, ◌-◌, ◌*◌, ◌/◌, ◌%◌, ◌^◌, ◌<◌, ◌≤◌, Bool, cond, eqb, ltb, Some, None, sym, refl, ap, ◌∙◌, subst, inl, inr, ⊎_elim, add-one, mod-lt, arith, lit≤, pow_pos}
 use lib.Pow.{mod-mod-pow}
-use Rattle.std.proofs.lemmas.Bool.{cases_lt, cases_Bool, cond-true, cond-false, eq-eqb, ne_eqb, eqb-true}
+use Rattle.std.proofs.lemmas.Bool.{cases_lt, lt-ltb, ltb-true, cases_Bool, cond-true, cond-false, eq-eqb, ne_eqb, eqb-true}
+use Rattle.std.proofs.lemmas.Bool.Decides.{nat_tests}
 use Rattle.sector.specs.declared.size.SizeCode.{SizeCode}
+use Rattle.sector.proofs.Every.{every_at}
 use Rattle.sector.specs.declared.wrong_bits.Burst.{Burst}
 use Rattle.sector.specs.Sizes.{bytes_of}
 use Rattle.sector.specs.Bits.{BitSet, digit_of, marked, OneBurst}
@@ -59,6 +61,17 @@ past_end size d f half inside small long passed e =
     let back : 2 * (q / 2) + 1 ≡ q = omega arith in
     candidate_none size d f (q / 2) (none_below (candidate size d f) half passed (q / 2) (omega arith))
     (ap (λ m. amount size (marked f m)) back ∙ amount_cong size (marked f q) (marked f p) (λ i l. marked_cut (bits_of size) f p i inside l) ∙ e)
+
+-- ---- how many patterns a register may show
+pub few_seen : (register seen half : ℕ) → seen ≡ cond (ltb register 32) 16 0 → half < seen → half < 16
+few_seen register seen half is h = grind (arith, nat_tests)
+
+mirror_low : ℕ → Bool
+mirror_low half = ltb (mirror (2 * half + 1)) 32
+
+mirror_small : (half : ℕ) → half < 16 → mirror (2 * half + 1) < 32
+unfolding mirror_low
+mirror_small half h = ltb-true (mirror (2 * half + 1)) 32 (every_at mirror_low 16 refl half h)
 
 -- ---- the register, taken back to bit f
 abbrev pub Back : SizeCode → ℕ → ℕ → ℕ → Type 0
@@ -131,6 +144,22 @@ module _ (size : SizeCode) (d f register : ℕ) (inside : f < bits_of size) (dl 
       (λ ends. unfit (miss size d f register inside dl rl back (2 * half + 1) (omega arith) (omega arith) ends e) ends)
       (λ long. past_end size d f half inside small long passed e)
       (cases_lt (2 * half + 1) (2 ^ (bits_of size - f)))))
+
+  -- none matches a register that is no mirrored pattern
+  passed_large : 32 ≤ register → (n : ℕ) → n ≤ 16 → Passed size d f n
+  passed_large large zero few = passed_none size d f
+  passed_large large (suc n) few =
+      let small : n < 16 = omega arith in
+      subst (Passed size d f) (add-one n)
+      (passed_more n small (passed_large large n (omega arith)) (λ same ends. let low = mirror_small n small in omega (arith, same, low, large)))
+
+  -- so all are passed once those are that the register may show
+  pub passed_all : (seen half : ℕ) → seen ≡ cond (ltb register 32) 16 0 → half ≡ seen → Passed size d f half → Passed size d f 16
+  passed_all seen half is all passed =
+      elim (cases_lt register 32) [
+        | inl shown ↦ subst (Passed size d f) (all ∙ is ∙ cond-true (ltb register 32) 16 0 (lt-ltb register 32 shown)) passed
+        | inr large ↦ passed_large large 16 (omega arith)
+      ]
 
   pub found : (half : ℕ) → half < 16 → Passed size d f half → Before size d f
       → register ≡ mirror (2 * half + 1) → 2 * half + 1 < 2 ^ (bits_of size - f) → first_burst size d ≡ Some (burst_at size d f half)

@@ -1,5 +1,5 @@
 // The search for the burst that a difference tells of.
-ghost use Rattle.std.specs.Prelude.{◌≡◌, ◌/◌, ◌%◌, ◌^◌, MatchOption, nat_lt};
+ghost use Rattle.std.specs.Prelude.{◌≡◌, ◌/◌, ◌%◌, ◌^◌, cond, MatchOption, nat_lt};
 ghost use Rattle.check_code.specs.Code.{ecc_code, step, append, fold};
 ghost use Rattle.check_code.specs.Aligned.{steps};
 ghost use Rattle.burst.specs.Search.{first_burst, NoneFits, Fits};
@@ -48,6 +48,14 @@ fn mirrored(pattern: u8) -> u32
     u32::from(pattern.reverse_bits() >> 3)
 }
 
+// How many of the sixteen odd patterns a register may show: none where it is no mirrored pattern, so that most first bits are
+// passed at once.
+fn halves_seen(register: u32) -> u8
+    ensures { result ≡ cond (nat_lt register 32) 16 0 }
+{
+    if register < 32 { 16 } else { 0 }
+}
+
 // Whether a pattern has no bit past so many.
 fn ends_within(pattern: u8, room: u16) -> bool
     ensures { result ≡ nat_lt pattern (2 ^ room) }
@@ -65,7 +73,7 @@ pub fn find_burst(difference: u32, size: SizeCode) -> Option<Burst>
     let mut found = None;
     // Two loops that a label leaves show the order of the search; a chain would hide it, and the register that goes along.
     'search: for first in 0..bits {
-        for half in 0..16u8 {
+        for half in 0..halves_seen(register) {
             let pattern = 2 * half + 1;
             if register == mirrored(pattern) && ends_within(pattern, bits - first) {
                 found = Some(Burst { first, pattern });

@@ -65,7 +65,7 @@ pub fn write<W: Drive, F: Drive>(
 }
 
 // So many reads of the data register.
-pub fn draw<W: Drive, F: Drive>(controller: &mut Controller<W, F>, count: u16, start: u32) -> u32
+pub fn draw<W: Drive, F: Drive>(controller: &mut Controller<W, F>, count: u32, start: u32) -> u32
     ensures { heard (model_of W.meaning F.meaning controller.new) result ≡ drawn count (heard (model_of W.meaning F.meaning controller.old) start) }
 {
     let mut sum = start;
@@ -79,7 +79,7 @@ pub fn draw<W: Drive, F: Drive>(controller: &mut Controller<W, F>, count: u16, s
 pub fn give<W: Drive, F: Drive>(
     controller: &mut Controller<W, F>,
     number: u8,
-    count: u16,
+    count: u32,
     start: u32,
 ) -> u32
     ensures { heard (model_of W.meaning F.meaning controller.new) result ≡ given number count (heard (model_of W.meaning F.meaning controller.old) start) }

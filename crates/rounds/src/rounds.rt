@@ -9,7 +9,7 @@ use drive::Drive;
 use task_file::Register;
 
 // How many bytes a sector has, by `SDH`: ECC, 512 bytes, Winchester and head 0.
-const SECTOR: u16 = 512;
+const SECTOR: u32 = 512;
 
 const SDH: u8 = 0xa0;
 

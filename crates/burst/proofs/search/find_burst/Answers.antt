@@ -4,7 +4,7 @@ use Rattle.std.proofs.lemmas.Bool.{lt-ltb, ltb-true, both_ways}
 use Rattle.check_code.specs.Code.{ecc_code}
 use Rattle.check_code.specs.Aligned.{steps}
 use Rattle.burst.specs.Search.{bits_of, NoneFits, Fits}
-use Rattle.burst.proofs.Searching.{Passed, Before, burst_at, back_first, back_more, passed_none, before_none, passed_more, before_more, found, not_found, none_fits, fits}
+use Rattle.burst.proofs.Searching.{Before, burst_at, back_first, back_more, passed_none, before_none, passed_more, few_seen, passed_all, before_more, found, not_found, none_fits, fits}
 use Rattle.burst.proofs.search.find_burst.Goals as goal
 use Rattle.burst.proofs.search.find_burst.Goals.{else-register-mirrored-via-then-register-mirrored+else-ends_within, else-register-mirrored-via-else-register-mirrored}
 
@@ -32,7 +32,7 @@ loop-half-preserved c =
       l.invariant.0,
       λ size e.
           let inside : s.first < bits_of size = omega (arith, c.search-test.true) in
-          passed_more size d s.first s.register inside small s.invariant.1 (s.invariant.2 size e).0 l.half c.loop-half-test.true (l.invariant.1 size e)
+          passed_more size d s.first s.register inside small s.invariant.1 (s.invariant.2 size e).0 l.half (few_seen s.register c.halves_seen-half-end.result l.half c.halves_seen-half-end.ensures c.loop-half-test.true) (l.invariant.1 size e)
           (λ same ends.
           elim c.else-register-mirrored.branch [
             | else-register-mirrored-via-then-register-mirrored+else-ends_within w ↦
@@ -48,13 +48,14 @@ search-preserved c =
     let d = c.args.difference in
     let s = c.search in
     let l = c.loop-half in
-    let done : l.half ≡ 16 = omega (arith, c.loop-half-test.false) in (
+    let small : d < 2 ^ 32 = search rules in
+    let done : l.half ≡ c.halves_seen-half-end.result = omega (arith, c.loop-half-test.false) in (
       l.invariant.0,
       c.shift-register.type_inv,
       λ size e.
           let inside : s.first < bits_of size = omega (arith, c.search-test.true) in (
             back_more size d s.first s.register inside (s.invariant.2 size e).0 c.shift-register.result c.shift-register.ensures,
-            before_more size d s.first (s.invariant.2 size e).1 (subst (λ h. Passed size d s.first h) done (l.invariant.1 size e)),
+            before_more size d s.first (s.invariant.2 size e).1 (passed_all size d s.first s.register inside small s.invariant.1 (s.invariant.2 size e).0 c.halves_seen-half-end.result l.half c.halves_seen-half-end.ensures done (l.invariant.1 size e)),
           ),
     )
 
@@ -83,6 +84,6 @@ returns-then-ends_within c =
     let ends : 2 * l.half + 1 < 2 ^ (bits_of size - s.first) =
     subst (λ m. 2 * l.half + 1 < 2 ^ (m - s.first)) (sym e)
     (ltb-true (2 * l.half + 1) (2 ^ (8 * c.bytes.result + 32 - s.first)) (sym c.ends_within.ensures ∙ c.if-ends_within.true)) in
-    let is = found size d s.first s.register inside small s.invariant.1 (s.invariant.2 size e).0 l.half c.loop-half-test.true (l.invariant.1 size e) (s.invariant.2 size e).1
+    let is = found size d s.first s.register inside small s.invariant.1 (s.invariant.2 size e).0 l.half (few_seen s.register c.halves_seen-half-end.result l.half c.halves_seen-half-end.ensures c.loop-half-test.true) (l.invariant.1 size e) (s.invariant.2 size e).1
     (c.if-register-mirrored.true ∙ c.mirrored.ensures) ends in
     record { first = sym is; only = fits size d (burst_at size d s.first l.half) is }
