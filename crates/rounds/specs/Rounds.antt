@@ -18,21 +18,21 @@ abbrev pub with_number : ℕ → ℕ → ℕ
 with_number sum n = ((sum * 31) % 2 ^ 32 + n) % 2 ^ 32
 
 -- the byte that was read, or the number of the refusal
-abbrev pub with_read : ℕ → Result ℕ Refusal → ℕ
-with_read sum (Ok byte) = with_number sum byte
-with_read sum (Err why) = with_number sum (refusal_number why)
+abbrev pub number_read : Result ℕ Refusal → ℕ
+number_read (Ok byte) = byte
+number_read (Err why) = refusal_number why
 
 -- 0 for a write that is done, or the number of the refusal
-abbrev pub with_write : ℕ → Result (Unit {0}) Refusal → ℕ
-with_write sum (Ok none) = with_number sum 0
-with_write sum (Err why) = with_number sum (refusal_number why)
+abbrev pub number_written : Result (Unit {0}) Refusal → ℕ
+number_written (Ok none) = 0
+number_written (Err why) = refusal_number why
 
 -- ---- one call
 abbrev pub read : ℕ → Heard → Heard
-read n h = heard (after_register_read h.board n) (with_read h.sum (read_answered h.board n))
+read n h = heard (after_register_read h.board n) (with_number h.sum (number_read (read_answered h.board n)))
 
 abbrev pub write : ℕ → ℕ → Heard → Heard
-write n byte h = heard (after_register_write h.board n byte) (with_write h.sum (write_answered h.board n byte))
+write n byte h = heard (after_register_write h.board n byte) (with_number h.sum (number_written (write_answered h.board n byte)))
 
 -- a turn answers nothing
 abbrev pub turn : Heard → Heard

@@ -1,7 +1,7 @@
 // Single calls on a controller, and the sum of their answers.
 ghost use Rattle.std.specs.Prelude.{◌≡◌};
 ghost use Rattle.controller.specs.Model.{model_of, read_answered, after_register_read, write_answered, after_register_write};
-ghost use Rattle.rounds.specs.Rounds.{heard, with_number, drawn, given, turned, read, write};
+ghost use Rattle.rounds.specs.Rounds.{heard, with_number, number_read, number_written, drawn, given, turned, read, write};
 
 use controller::{Controller, Refusal};
 use drive::Drive;
@@ -39,14 +39,31 @@ fn with_number(sum: u32, number: u8) -> u32
     sum.wrapping_mul(31).wrapping_add(u32::from(number))
 }
 
+// The byte that was read, or the number of the refusal.
+fn number_read(answer: Result<u8, Refusal>) -> u8
+    ensures { result ≡ number_read answer }
+{
+    match answer {
+        Ok(byte) => byte,
+        Err(why) => u8::from(why),
+    }
+}
+
+// 0 for a write that is done, or the number of the refusal.
+fn number_written(answer: Result<(), Refusal>) -> u8
+    ensures { result ≡ number_written answer }
+{
+    match answer {
+        Ok(()) => 0,
+        Err(why) => u8::from(why),
+    }
+}
+
 // A register read, and the sum with its answer.
 pub fn read<W: Drive, F: Drive>(controller: &mut Controller<W, F>, number: u8, sum: u32) -> u32
     ensures { heard (model_of W.meaning F.meaning controller.new) result ≡ read number (heard (model_of W.meaning F.meaning controller.old) sum) }
 {
-    match access_read(controller, number) {
-        Ok(byte) => with_number(sum, byte),
-        Err(why) => with_number(sum, u8::from(why)),
-    }
+    with_number(sum, number_read(access_read(controller, number)))
 }
 
 // A register write, and the sum with its answer.
@@ -58,10 +75,7 @@ pub fn write<W: Drive, F: Drive>(
 ) -> u32
     ensures { heard (model_of W.meaning F.meaning controller.new) result ≡ write number byte (heard (model_of W.meaning F.meaning controller.old) sum) }
 {
-    match access_write(controller, number, byte) {
-        Ok(()) => with_number(sum, 0),
-        Err(why) => with_number(sum, u8::from(why)),
-    }
+    with_number(sum, number_written(access_write(controller, number, byte)))
 }
 
 // So many reads of the data register.
