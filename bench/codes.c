@@ -1,5 +1,6 @@
-/* Times the proved check codes against plain C: bit by bit, by a table, and by eight tables.
+/* Times the proved check codes against plain C: bit by bit, by a table, and by eight tables, as the proved ones go too.
  * Every way runs over the same 64 MiB in sectors of 512 bytes, and all must agree. */
+#include <stdbool.h>
 #include <stddef.h>
 #include <stdint.h>
 #include <stdio.h>
@@ -8,85 +9,86 @@
 
 #define SECTOR 512
 #define TOTAL (64u << 20)
+#define REPEATS 5
 
 /* the proved library */
 uint32_t disk_crc(const uint8_t *bytes, size_t length);
 uint32_t disk_ecc(const uint8_t *bytes, size_t length);
 uint16_t disk_burst(uint32_t difference);
 
-typedef uint32_t (*check_fn)(const uint8_t *, size_t);
+/* a code, its register at the top of 32 bits; `below` is how many bits stand below it */
+struct code {
+    const char *name;
+    uint32_t polynomial, start;
+    int below;
+    uint32_t tables[8][256];
+};
 
-static uint32_t ecc_bits(const uint8_t *p, size_t n)
-{
-    uint32_t r = 0xffffffffu;
-    while (n--) {
-        r ^= (uint32_t)*p++ << 24;
-        for (int i = 0; i < 8; i++)
-            r = (r << 1) ^ (0x140a0445u & -(r >> 31));
-    }
-    return r;
-}
+static struct code ecc = { .name = "ECC", .polynomial = 0x140a0445u, .start = 0xffffffffu };
+static struct code crc = { .name = "CRC", .polynomial = 0x10210000u, .start = 0xffff0000u, .below = 16 };
 
-static uint32_t crc_bits(const uint8_t *p, size_t n)
-{
-    uint32_t r = 0xffffu;
-    while (n--) {
-        r ^= (uint32_t)*p++ << 8;
-        for (int i = 0; i < 8; i++)
-            r = ((r << 1) ^ (0x1021u & -(r >> 15 & 1))) & 0xffffu;
-    }
-    return r;
-}
-
-static uint32_t ecc_table[8][256];
-static uint16_t crc_table[256];
-
-static void make_tables(void)
+static void make_tables(struct code *code)
 {
     for (uint32_t b = 0; b < 256; b++) {
-        uint32_t r = b << 24, s = b << 8;
-        for (int i = 0; i < 8; i++) {
-            r = (r << 1) ^ (0x140a0445u & -(r >> 31));
-            s = ((s << 1) ^ (0x1021u & -(s >> 15 & 1))) & 0xffffu;
-        }
-        ecc_table[0][b] = r;
-        crc_table[b] = (uint16_t)s;
+        uint32_t r = b << 24;
+        for (int i = 0; i < 8; i++)
+            r = (r << 1) ^ (code->polynomial & -(r >> 31));
+        code->tables[0][b] = r;
     }
     for (int k = 1; k < 8; k++)
         for (uint32_t b = 0; b < 256; b++) {
-            uint32_t r = ecc_table[k - 1][b];
-            ecc_table[k][b] = (r << 8) ^ ecc_table[0][r >> 24];
+            uint32_t r = code->tables[k - 1][b];
+            code->tables[k][b] = (r << 8) ^ code->tables[0][r >> 24];
         }
 }
 
-static uint32_t ecc_by_table(const uint8_t *p, size_t n)
-{
-    uint32_t r = 0xffffffffu;
-    while (n--)
-        r = (r << 8) ^ ecc_table[0][(r >> 24) ^ *p++];
-    return r;
-}
+/* ---- the ways: each answers the check of n bytes, a multiple of eight */
 
-static uint32_t crc_by_table(const uint8_t *p, size_t n)
-{
-    uint16_t r = 0xffffu;
-    while (n--)
-        r = (uint16_t)((r << 8) ^ crc_table[(r >> 8) ^ *p++]);
-    return r;
-}
+typedef uint32_t (*way)(const struct code *, const uint8_t *, size_t);
 
-static uint32_t ecc_by_eight(const uint8_t *p, size_t n)
+static uint32_t by_bits(const struct code *code, const uint8_t *p, size_t n)
 {
-    uint32_t r = 0xffffffffu;
-    for (; n >= 8; n -= 8, p += 8) {
-        r ^= (uint32_t)p[0] << 24 | (uint32_t)p[1] << 16 | (uint32_t)p[2] << 8 | p[3];
-        r = ecc_table[7][r >> 24] ^ ecc_table[6][r >> 16 & 255] ^ ecc_table[5][r >> 8 & 255] ^ ecc_table[4][r & 255]
-            ^ ecc_table[3][p[4]] ^ ecc_table[2][p[5]] ^ ecc_table[1][p[6]] ^ ecc_table[0][p[7]];
+    uint32_t r = code->start;
+    while (n--) {
+        r ^= (uint32_t)*p++ << 24;
+        for (int i = 0; i < 8; i++)
+            r = (r << 1) ^ (code->polynomial & -(r >> 31));
     }
-    while (n--)
-        r = (r << 8) ^ ecc_table[0][(r >> 24) ^ *p++];
-    return r;
+    return r >> code->below;
 }
+
+static uint32_t by_table(const struct code *code, const uint8_t *p, size_t n)
+{
+    uint32_t r = code->start;
+    while (n--)
+        r = (r << 8) ^ code->tables[0][(r >> 24) ^ *p++];
+    return r >> code->below;
+}
+
+static uint32_t load(const uint8_t *p)
+{
+    return (uint32_t)p[0] << 24 | (uint32_t)p[1] << 16 | (uint32_t)p[2] << 8 | p[3];
+}
+
+/* the second word comes first, since it does not wait for the register */
+static uint32_t by_eight_tables(const struct code *code, const uint8_t *p, size_t n)
+{
+    const uint32_t(*t)[256] = code->tables;
+    uint32_t r = code->start;
+    for (const uint8_t *end = p + n; p != end; p += 8) {
+        uint32_t b = load(p + 4), a = r ^ load(p);
+        r = (t[3][b >> 24] ^ t[2][b >> 16 & 255] ^ t[1][b >> 8 & 255] ^ t[0][b & 255])
+            ^ (t[7][a >> 24] ^ t[6][a >> 16 & 255] ^ t[5][a >> 8 & 255] ^ t[4][a & 255]);
+    }
+    return r >> code->below;
+}
+
+static uint32_t proved(const struct code *code, const uint8_t *p, size_t n)
+{
+    return code == &ecc ? disk_ecc(p, n) : disk_crc(p, n);
+}
+
+/* ---- timing */
 
 /* the processor time of this process, so that others on the machine count little */
 static double seconds(void)
@@ -98,81 +100,82 @@ static double seconds(void)
 
 static volatile uint32_t sink;
 
-static double once(check_fn check, const uint8_t *data, size_t total, uint32_t *sum)
-{
-    double t = seconds();
-    uint32_t all = 0;
-    for (size_t at = 0; at < total; at += SECTOR)
-        all = all * 31 + check(data + at, SECTOR);
-    *sum = all;
-    sink = all;
-    return seconds() - t;
-}
-
-/* the best of five runs */
-static double timed(check_fn check, const uint8_t *data, size_t total, uint32_t *sum)
+/* the best of so many runs over all sectors, and the sum of their checks */
+static double timed(way check, const struct code *code, const uint8_t *data, int repeats, uint32_t *sum)
 {
     double best = 1e9;
-    for (int i = 0; i < 5; i++) {
-        double t = once(check, data, total, sum);
-        if (t < best)
-            best = t;
+    for (int i = 0; i < repeats; i++) {
+        double t = seconds();
+        *sum = 0;
+        for (size_t at = 0; at < TOTAL; at += SECTOR)
+            *sum = *sum * 31 + check(code, data + at, SECTOR);
+        sink = *sum;
+        t = seconds() - t;
+        best = t < best ? t : best;
     }
     return best;
 }
 
-static void line(const char *name, double t, double base)
+/* every way of one code, beside the fastest in C; false where they do not agree */
+static bool compare(const struct code *code, const uint8_t *data)
 {
-    printf("%-28s %8.1f ms %8.0f MiB/s %7.2f x the C table\n", name, t * 1e3, 64.0 / t, t / base);
+    static const struct {
+        const char *name;
+        way check;
+        int repeats;
+    } ways[] = {
+        { "C by eight tables", by_eight_tables, REPEATS },
+        { "proved", proved, REPEATS },
+        { "C by one table", by_table, REPEATS },
+        { "C bit by bit", by_bits, 1 },
+    };
+    double base = 0;
+    uint32_t sums[4];
+    for (int i = 0; i < 4; i++) {
+        double t = timed(ways[i].check, code, data, ways[i].repeats, &sums[i]);
+        base = i == 0 ? t : base;
+        printf("%s, %-23s %8.1f ms %8.0f MiB/s %7.2f x the C by eight tables\n", code->name, ways[i].name, t * 1e3, 64.0 / t, t / base);
+        if (sums[i] != sums[0]) {
+            printf("THE CHECKS DISAGREE\n");
+            return false;
+        }
+    }
+    return true;
+}
+
+/* a difference that no burst has: the search goes through the whole sector */
+static void time_search(void)
+{
+    uint32_t none = 0x12345678u;
+    while (disk_burst(none) != 0xffff)
+        none++;
+    int turns = 20000;
+    double t = seconds();
+    for (int i = 0; i < turns; i++)
+        sink = disk_burst(none);
+    t = (seconds() - t) / turns;
+    printf("full burst search, %d bytes: %.2f us\n", SECTOR, t * 1e6);
 }
 
 int main(void)
 {
     uint8_t *data = malloc(TOTAL);
-    uint32_t x = 2463534242u, sums[4], crcs[3];
     if (!data)
         return 1;
+    uint32_t x = 2463534242u;
     for (size_t i = 0; i < TOTAL; i++) {
         x ^= x << 13;
         x ^= x >> 17;
         x ^= x << 5;
         data[i] = (uint8_t)x;
     }
-    make_tables();
-
-    double table = timed(ecc_by_table, data, TOTAL, &sums[0]);
-    double ours = timed(disk_ecc, data, TOTAL, &sums[1]);
-    double eight = timed(ecc_by_eight, data, TOTAL, &sums[2]);
-    double bits = once(ecc_bits, data, TOTAL, &sums[3]);
-    double crc_table_time = timed(crc_by_table, data, TOTAL, &crcs[0]);
-    double crc_ours = timed(disk_crc, data, TOTAL, &crcs[1]);
-    double crc_bit_time = once(crc_bits, data, TOTAL, &crcs[2]);
-
-    printf("64 MiB in sectors of %d bytes, best of five runs (bit by bit: one)\n", SECTOR);
-    line("ECC, C table", table, table);
-    line("ECC, proved", ours, table);
-    line("ECC, C eight tables", eight, table);
-    line("ECC, C bit by bit", bits, table);
-    line("CRC, C table", crc_table_time, crc_table_time);
-    line("CRC, proved", crc_ours, crc_table_time);
-    line("CRC, C bit by bit", crc_bit_time, crc_table_time);
-
-    /* a difference that no burst has: the search goes through the whole sector */
-    uint32_t none = 0x12345678u;
-    while (disk_burst(none) != 0xffff)
-        none++;
-    int turns = 2000;
-    double t = seconds();
-    for (int i = 0; i < turns; i++)
-        sink = disk_burst(none);
-    t = (seconds() - t) / turns;
-    printf("full burst search, 512 bytes: %.1f us\n", t * 1e6);
-
-    if (sums[0] != sums[1] || sums[0] != sums[2] || sums[0] != sums[3] || crcs[0] != crcs[1] || crcs[0] != crcs[2]) {
-        printf("THE CHECKS DISAGREE\n");
+    make_tables(&ecc);
+    make_tables(&crc);
+    printf("64 MiB in sectors of %d bytes, best of %d runs (bit by bit: one)\n", SECTOR, REPEATS);
+    if (!compare(&ecc, data) || !compare(&crc, data))
         return 1;
-    }
     printf("all ways agree\n");
+    time_search();
     free(data);
     return 0;
 }

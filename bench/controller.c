@@ -65,13 +65,13 @@ static void store(uint8_t *p, uint32_t x)
     p[3] = (uint8_t)x;
 }
 
-/* the register after n bytes, a multiple of eight */
+/* the register after n bytes, a multiple of eight; the second word comes first, since it does not wait for the register */
 static uint32_t register_after(const uint32_t table[8][256], uint32_t r, const uint8_t *p, size_t n)
 {
     for (const uint8_t *end = p + n; p != end; p += 8) {
-        uint32_t a = r ^ load(p), b = load(p + 4);
-        r = table[7][a >> 24] ^ table[6][a >> 16 & 255] ^ table[5][a >> 8 & 255] ^ table[4][a & 255]
-            ^ table[3][b >> 24] ^ table[2][b >> 16 & 255] ^ table[1][b >> 8 & 255] ^ table[0][b & 255];
+        uint32_t b = load(p + 4), a = r ^ load(p);
+        r = (table[3][b >> 24] ^ table[2][b >> 16 & 255] ^ table[1][b >> 8 & 255] ^ table[0][b & 255])
+            ^ (table[7][a >> 24] ^ table[6][a >> 16 & 255] ^ table[5][a >> 8 & 255] ^ table[4][a & 255]);
     }
     return r;
 }

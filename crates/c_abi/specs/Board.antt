@@ -1,5 +1,5 @@
 -- The board that C describes.
-use Rattle.std.specs.Prelude.{ℕ, cond, List, [], ◌∷◌, length, Some, None, Option, ◌==◌}
+use Rattle.std.specs.Prelude.{ℕ, cond, List, [], length, map, Some, None, Option, ◌==◌}
 use Rattle.drive.specs.declared.geometry.Geometry.{Geometry}
 use Rattle.drive.specs.Bounds.{Measures, measures}
 use Rattle.drive.specs.Model.{DriveModel}
@@ -9,12 +9,13 @@ use Rattle.image.specs.Image.{image_model, refusal_of}
 use Rattle.fault_table.specs.declared.entry.FaultEntry.{FaultEntry}
 use Rattle.fault_table.specs.declared.entry.FaultKind.{FaultKind}
 use Rattle.fault_table.specs.declared.entry.FaultKind.TheVariants.{NoId, NoDataMark, WrongBits}
-use Rattle.fault_table.specs.Adding.{after_add}
+use Rattle.fault_table.specs.Adding.{all_added}
 use Rattle.fault_table.specs.Faults.{with_faults}
 use Rattle.controller.specs.Model.{ControllerModel, made}
 use Rattle.c_abi.specs.declared.board.ImageMeasures.{ImageMeasures}
 use Rattle.c_abi.specs.declared.board.PlainFault.{PlainFault}
 
+-- the measures of an image, without whether it is protected
 abbrev pub geometry_of : ImageMeasures → Geometry
 geometry_of m = record { cylinders = m.cylinders; heads = m.heads; capacity = m.capacity }
 
@@ -23,6 +24,7 @@ geometry_of m = record { cylinders = m.cylinders; heads = m.heads; capacity = m.
 abbrev pub kind_of : ℕ → FaultKind
 kind_of n = cond (n == 1) NoId (cond (n == 2) NoDataMark WrongBits)
 
+-- the entry that a fault of C makes
 abbrev pub entry_of : PlainFault → FaultEntry
 entry_of f =
     record {
@@ -31,11 +33,6 @@ entry_of f =
       burst = record { first = f.first; pattern = f.pattern };
       attempts = f.attempts;
     }
-
--- the entries once all faults were added, as far as they are taken
-abbrev pub all_laid : List FaultEntry → List PlainFault → List FaultEntry
-all_laid es [] = es
-all_laid es (f ∷ fs) = all_laid (after_add es (entry_of f)) fs
 
 -- ---- drives
 -- what a bay means where something stands against its image, or nothing does
@@ -50,7 +47,7 @@ bay_model most m memory = bay_by (refusal_of most m.cylinders m.heads m.capacity
 -- the Winchester under its faults, the floppy, and a controller that is made now over both
 abbrev pub board_model : ImageMeasures → List ℕ → List PlainFault → ImageMeasures → List ℕ → ControllerModel
 board_model w winchester faults f floppy =
-    made (with_faults (all_laid [] faults) (bay_model (measures 1024 8) w winchester)) (bay_model (measures 256 2) f floppy)
+    made (with_faults (all_added [] (map entry_of faults)) (bay_model (measures 1024 8) w winchester)) (bay_model (measures 256 2) f floppy)
 
 -- ---- what is left in the bytes that C gave
 -- others of the same number; where they are more or fewer, the old ones stay

@@ -32,6 +32,7 @@ abbrev pub fault_or_zeros : Option Fault → Fault
 fault_or_zeros (Some f) = f
 fault_or_zeros None = record { layer = 0; error = 0; cylinder = 0; head = 0; number = 0; attempts = 0 }
 
+-- what C is told: the answer, DRQ, INTRQ and BUSY, and the last fault, with zeros where there is none
 abbrev pub told : Answer → Bool → Bool → Bool → Fault → PlainAnswer
 told a drq intrq busy f =
     record {

@@ -1,9 +1,10 @@
 // A board whose parts C describes: a controller over a Winchester image under faults, and a floppy image.
-ghost use Rattle.std.specs.Prelude.{◌≡◌, IfOk, [], length};
+ghost use Rattle.std.specs.Prelude.{◌≡◌, IfOk, [], length, map};
 ghost use Rattle.drive.specs.Bounds.{measures};
 ghost use Rattle.controller.specs.Model.{model_of};
+ghost use Rattle.fault_table.specs.Adding.{all_added};
 ghost use Rattle.fault_table.specs.Faults.{with_faults};
-ghost use Rattle.c_abi.specs.Board.{geometry_of, entry_of, all_laid, bay_model, board_model, fitting};
+ghost use Rattle.c_abi.specs.Board.{geometry_of, entry_of, bay_model, board_model, fitting};
 
 use controller::Controller;
 use drive::{Bay, Drive, Geometry, Place};
@@ -89,7 +90,7 @@ fn bay<M: Make>(
 
 // The faults laid over a drive, as far as they are taken.
 fn lay<D: Drive>(table: &mut FaultTable<D>, faults: &[PlainFault])
-    ensures entries { table.new.faults.items ≡ all_laid table.old.faults.items faults.now }
+    ensures entries { table.new.faults.items ≡ all_added table.old.faults.items (map entry_of faults.now) }
     ensures drive { table.new.drive ≡ table.old.drive }
 {
     for fault in faults {

@@ -8,7 +8,7 @@ use Rattle.sector.specs.Bits.{bit_at}
 use Rattle.sector.proofs.Every.{every_at}
 use Rattle.check_code.specs.Code.{Code, width, enter, append, fold}
 use Rattle.check_code.specs.Aligned.{steps}
-use Rattle.check_code.proofs.Fold.{Bits, fold_apart, fold_cong, fold_add, append_linear, double_fold}
+use Rattle.check_code.proofs.Fold.{Bits, fold_apart, fold_cong, fold_add, append_linear, digits_lt, double_fold}
 use Rattle.check_code.proofs.Register.{steps_xor, steps_add, steps_small, enter_linear, enter_none, enter_below, below_digits}
 
 -- ---- bits of bytes
@@ -16,7 +16,7 @@ pub bit_at_lt : (bytes : List ℕ) → Bits (bit_at bytes)
 bit_at_lt bytes i = mod-lt (slice_index bytes (i / 8) / 2 ^ (7 - i % 8)) (omega arith)
 
 -- the same bit of the same byte
-at_byte : (xs ys : List ℕ) (i j p q : ℕ) → slice_index xs p ≡ slice_index ys q → i / 8 ≡ p → j / 8 ≡ q → i % 8 ≡ j % 8 → bit_at xs i ≡ bit_at ys j
+pub at_byte : (xs ys : List ℕ) (i j p q : ℕ) → slice_index xs p ≡ slice_index ys q → i / 8 ≡ p → j / 8 ≡ q → i % 8 ≡ j % 8 → bit_at xs i ≡ bit_at ys j
 at_byte xs ys i j p q e ip jq m =
     ap₂ (λ x y. x / 2 ^ (7 - y) % 2) (ap (λ x. slice_index xs x) ip ∙ e ∙ ap (λ x. slice_index ys x) (sym jq)) m
 
@@ -56,18 +56,24 @@ digits_more bytes i h =
     ∙ ap₂ bit_xor (double_fold v 8) (byte_digits b h) ∙ xor_shifted v 8 b h
 
 module _ (c : Code) (wide : 8 ≤ width c) where
+  -- digits enter at once, beside the register's top ones
+  pub enter_digits : (v : ℕ) (s : ℕ → ℕ) → Bits s → (m : ℕ) → m ≤ width c
+      → fold (enter c) v s m ≡ steps c m (bit_xor v (fold append 0 s m * 2 ^ (width c - m)))
+  enter_digits v s h m l =
+      let d : ℕ = fold append 0 s m in
+      let e : width c ≡ m + (width c - m) = omega arith in
+      let fit : d * 2 ^ (width c - m) < 2 ^ width c = subst (λ x. d * 2 ^ (width c - m) < 2 ^ x) (sym e) (shl_lt m (width c - m) (digits_lt s h m)) in
+      fold_apart (enter c) (enter_linear c) v s m
+      ∙ ap₂ bit_xor (enter_none c v m)
+      (enter_below c s h m
+      ∙ ap (steps c (width c)) (below_digits c s h m l)
+      ∙ ap (λ x. steps c x d) e ∙ steps_add c m (width c - m) d ∙ ap (steps c m) (steps_small c (width c - m) d fit))
+      ∙ sym (steps_xor c m v (d * 2 ^ (width c - m)))
+
   -- eight bits enter at once, beside the register's top byte
   enter_byte : (v b : ℕ) → b < 256 → fold (enter c) v (bit_at (b ∷ [])) 8 ≡ steps c 8 (bit_xor v (b * 2 ^ (width c - 8)))
   enter_byte v b hb =
-      let s : ℕ → ℕ = bit_at (b ∷ []) in
-      let e : width c ≡ 8 + (width c - 8) = omega arith in
-      let fit : b * 2 ^ (width c - 8) < 2 ^ width c = subst (λ x. b * 2 ^ (width c - 8) < 2 ^ x) (sym e) (shl_lt 8 (width c - 8) hb) in
-      fold_apart (enter c) (enter_linear c) v s 8
-      ∙ ap₂ bit_xor (enter_none c v 8)
-      (enter_below c s (bit_at_lt (b ∷ [])) 8
-      ∙ ap (steps c (width c)) (below_digits c s (bit_at_lt (b ∷ [])) 8 (omega arith) ∙ byte_digits b hb)
-      ∙ ap (λ x. steps c x b) e ∙ steps_add c 8 (width c - 8) b ∙ ap (steps c 8) (steps_small c (width c - 8) b fit))
-      ∙ sym (steps_xor c 8 v (b * 2 ^ (width c - 8)))
+      enter_digits v (bit_at (b ∷ [])) (bit_at_lt (b ∷ [])) 8 wide ∙ ap (λ x. steps c 8 (bit_xor v (x * 2 ^ (width c - 8)))) (byte_digits b hb)
 
   -- the register after one more byte
   pub register_more : (start : ℕ) (bytes : List ℕ) (i : ℕ) → slice_index bytes i < 256

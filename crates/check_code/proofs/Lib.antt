@@ -4,6 +4,7 @@ pub mod Bytes
 pub mod Laws
 pub mod Window
 pub mod Table
+pub mod Words
 pub mod Aligned
 pub mod Division
 pub mod Examples

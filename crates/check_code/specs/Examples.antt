@@ -7,6 +7,7 @@ use Rattle.check_code.specs.Code.{crc_code, ecc_code, check_of, amount_of}
 abbrev pub last_data_bit : ℕ → BitSet
 last_data_bit n i = i == 8 * n + 7
 
+-- What is known of both codes.
 pub record Examples : Type 0 where
   -- the CRC of the nine digits, and their ECC
   pub nine_digits : check_of crc_code (codes "123456789") ≡ 0x29b1

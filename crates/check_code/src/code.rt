@@ -22,6 +22,14 @@ pub trait CheckCode {
     fn shifted(byte: u8) -> u32
         ensures { result ≡ steps (aligned code) 8 (byte * 2 ^ 24) };
 
+    // What 32 shifts make of a register at the top of 32 bits: what four bytes of zeros do to it.
+    fn shifted_by_four(register: u32) -> u32
+        ensures { result ≡ steps (aligned code) 32 register };
+
+    // What 64 shifts make of it: what eight bytes of zeros do to it.
+    fn shifted_by_eight(register: u32) -> u32
+        ensures { result ≡ steps (aligned code) 64 register };
+
     // The polynomial has the register's degree, and the start fits the register.
     ghost sound: { Sound code };
 
@@ -31,12 +39,21 @@ pub trait CheckCode {
     ghost start_is: { START ≡ code.start };
 }
 
-// The remainder after more bytes, from a remembered one on, at the top of 32 bits.
+// The remainder after more bytes, from a remembered one on, at the top of 32 bits. Of eight bytes the first four enter beside
+// all bits of the register, and are shifted 64 times with it; the last four are shifted 32 times, and what both leave is xored.
 fn register_after<C: CheckCode>(from: u32, bytes: &[u8]) -> u32
     ensures { result ≡ remainder_of C.CheckCode.code from bytes.now * 2 ^ (32 - width_of C.CheckCode.code) }
 {
     let mut register = from << (32 - C::WIDTH);
-    for byte in bytes {
+    let (eights, rest) = bytes.as_chunks::<8>();
+    for eight in eights {
+        let [a, b, c, d, e, f, g, h] = *eight;
+        let first = u32::from_be_bytes([a, b, c, d]);
+        let second = u32::from_be_bytes([e, f, g, h]);
+        // the second word's entries are looked up first: they need not wait for the register
+        register = C::shifted_by_four(second) ^ C::shifted_by_eight(register ^ first);
+    }
+    for byte in rest {
         register = (register << 8) ^ C::shifted((register >> 24) as u8 ^ *byte);
     }
     register

@@ -4,7 +4,7 @@ ghost use Rattle.check_code.specs.Code.{width as width_of, crc_code, ecc_code};
 ghost use Rattle.check_code.specs.Sound.{crc_sound, ecc_sound};
 
 use super::code::CheckCode;
-use super::tables::{CRC_TABLE, ECC_TABLE};
+use super::tables::{CRC_TABLES, ECC_TABLES};
 
 // X^16 + X^12 + X^5 + 1, from FFFFh.
 pub struct Crc;
@@ -30,7 +30,21 @@ impl CheckCode for Crc {
     const START: u32 = 0x0000_ffff;
 
     fn shifted(byte: u8) -> u32 {
-        CRC_TABLE[byte as usize]
+        CRC_TABLES[0][byte as usize]
+    }
+
+    fn shifted_by_four(register: u32) -> u32 {
+        CRC_TABLES[3][(register >> 24) as usize]
+            ^ CRC_TABLES[2][(register >> 16 & 0xff) as usize]
+            ^ CRC_TABLES[1][(register >> 8 & 0xff) as usize]
+            ^ CRC_TABLES[0][(register & 0xff) as usize]
+    }
+
+    fn shifted_by_eight(register: u32) -> u32 {
+        CRC_TABLES[7][(register >> 24) as usize]
+            ^ CRC_TABLES[6][(register >> 16 & 0xff) as usize]
+            ^ CRC_TABLES[5][(register >> 8 & 0xff) as usize]
+            ^ CRC_TABLES[4][(register & 0xff) as usize]
     }
 }
 
@@ -52,6 +66,20 @@ impl CheckCode for Ecc {
     const START: u32 = 0xffff_ffff;
 
     fn shifted(byte: u8) -> u32 {
-        ECC_TABLE[byte as usize]
+        ECC_TABLES[0][byte as usize]
+    }
+
+    fn shifted_by_four(register: u32) -> u32 {
+        ECC_TABLES[3][(register >> 24) as usize]
+            ^ ECC_TABLES[2][(register >> 16 & 0xff) as usize]
+            ^ ECC_TABLES[1][(register >> 8 & 0xff) as usize]
+            ^ ECC_TABLES[0][(register & 0xff) as usize]
+    }
+
+    fn shifted_by_eight(register: u32) -> u32 {
+        ECC_TABLES[7][(register >> 24) as usize]
+            ^ ECC_TABLES[6][(register >> 16 & 0xff) as usize]
+            ^ ECC_TABLES[5][(register >> 8 & 0xff) as usize]
+            ^ ECC_TABLES[4][(register & 0xff) as usize]
     }
 }

@@ -1,6 +1,5 @@
 -- The access rules, and what register reads and writes answer and leave.
 use Rattle.std.specs.Prelude.{ℕ, Bool, true, false, not, ◌||◌, is_some, Some, None, Ok, Err, Option, Result, ◌==◌}
-use Rattle.sector.specs.Sizes.{bytes_of}
 use Rattle.drive.specs.Asking.{unless}
 use Rattle.task_file.specs.declared.registers.Register.{Register}
 use Rattle.task_file.specs.declared.registers.Register.TheVariants as register
@@ -9,13 +8,13 @@ use Rattle.task_file.specs.declared.state.Phase.{Phase}
 use Rattle.task_file.specs.declared.state.Phase.TheVariants.{Rest, Busy, Offering, Taking}
 use Rattle.task_file.specs.declared.state.State.{State}
 use Rattle.task_file.specs.declared.view.DriveView.{DriveView}
-use Rattle.task_file.specs.Registers.{register_number, register_numbered, size_at, stored}
+use Rattle.task_file.specs.Registers.{register_number, register_numbered, stored}
 use Rattle.task_file.specs.Commands.{command_of}
 use Rattle.task_file.specs.Failures.{error_byte}
 use Rattle.task_file.specs.State.{with_registers, with_intrq, is_busy, requests}
 use Rattle.task_file.specs.Beginning.{begun}
 use Rattle.task_file.specs.Status.{status_of}
-use Rattle.task_file.specs.Moving.{byte_at, drawn, put}
+use Rattle.task_file.specs.Moving.{offered_in, drawn_in, put_in}
 use Rattle.controller.specs.declared.access.Refusal.{Refusal}
 use Rattle.controller.specs.declared.access.Refusal.TheVariants as refusal
 
@@ -31,6 +30,7 @@ refusal_number refusal.NoCommand = 5
 abbrev pub is_data : Register → Bool
 is_data r = register_number r == 0
 
+-- register 7, of the status and the commands
 abbrev pub is_status : Register → Bool
 is_status r = register_number r == 7
 
@@ -55,13 +55,17 @@ read_refusal p r =
     unless (not (is_busy p) || is_status r) (Some refusal.Busy)
     (unless (not (is_data r) || offers p) (Some refusal.NoDataRequest) None)
 
--- a write: BUSY is off; of data, DRQ is on from the host; to registers 1 to 6, DRQ is off; of a command, the byte is accepted
+-- the last of a write: of a command, the byte is accepted
+abbrev pub command_refusal : Register → Option Command → Option Refusal
+command_refusal r command = unless (not (is_status r) || is_some command) (Some refusal.NoCommand) None
+
+-- a write: BUSY is off; of data, DRQ is on from the host; to registers 1 to 6, DRQ is off; and the last
 abbrev pub write_refusal : Phase → Register → Option Command → Option Refusal
 write_refusal p r command =
     unless (not (is_busy p)) (Some refusal.Busy)
     (unless (not (is_data r) || takes p) (Some refusal.NoDataRequest)
     (unless (is_data r || (is_status r || not (requests p))) (Some refusal.DataRequest)
-    (unless (not (is_status r) || is_some command) (Some refusal.NoCommand) None)))
+    (command_refusal r command)))
 
 -- what is answered where a rule stands against an access, and else
 abbrev pub answered : {A : Type 0} → Option Refusal → A → Result A Refusal
@@ -79,13 +83,6 @@ at_register None none some = none
 at_register (Some r) none some = some r
 
 -- ---- reads
--- the byte that is offered
-abbrev pub offered_in : Phase → State → ℕ
-offered_in Rest s = 0
-offered_in (Busy j) s = 0
-offered_in (Offering m at) s = byte_at s.buffer (bytes_of (size_at s.registers.sdh)) at
-offered_in (Taking l at) s = 0
-
 -- the byte that a read gives
 abbrev pub read_byte : State → Option DriveView → Register → ℕ
 read_byte s v register.Data = offered_in s.phase s
@@ -96,12 +93,6 @@ read_byte s v register.Low = s.registers.low
 read_byte s v register.High = s.registers.high
 read_byte s v register.Sdh = s.registers.sdh
 read_byte s v register.Status = status_of s v
-
-abbrev pub drawn_in : Phase → State → State
-drawn_in Rest s = s
-drawn_in (Busy j) s = s
-drawn_in (Offering m at) s = drawn s m at
-drawn_in (Taking l at) s = s
 
 -- what a read leaves: data go out one by one, and reading the status turns INTRQ off
 abbrev pub read_effect : State → Register → State
@@ -114,20 +105,17 @@ read_effect s register.High = s
 read_effect s register.Sdh = s
 read_effect s register.Status = with_intrq s false
 
+-- what a read of register n answers: the first rule that stands against it, or the byte
 unfoldable pub read_answer_of : State → Option DriveView → ℕ → Result ℕ Refusal
 read_answer_of s v n =
     at_register (register_numbered n) (Err refusal.NoRegister) (λ r. answered (read_refusal s.phase r) (read_byte s v r))
 
+-- what it leaves
 unfoldable pub state_after_read : State → ℕ → State
 state_after_read s n = at_register (register_numbered n) s (λ r. unless_refused (read_refusal s.phase r) s (read_effect s r))
 
 -- ---- writes
-abbrev pub put_in : Phase → State → ℕ → State
-put_in Rest s byte = s
-put_in (Busy j) s byte = s
-put_in (Offering m at) s byte = s
-put_in (Taking l at) s byte = put s l at byte
-
+-- a command begins, if the byte gives one
 abbrev pub begun_by : Option Command → State → Option DriveView → State
 begun_by None s v = s
 begun_by (Some c) s v = begun s c v
@@ -143,10 +131,12 @@ write_effect s v register.High byte = with_registers s (stored s.registers regis
 write_effect s v register.Sdh byte = with_registers s (stored s.registers register.Sdh byte)
 write_effect s v register.Status byte = begun_by (command_of byte) s v
 
+-- what a write to register n answers: the first rule that stands against it, or that it is done
 unfoldable pub write_answer_of : State → ℕ → ℕ → Result (Unit {0}) Refusal
 write_answer_of s n byte =
     at_register (register_numbered n) (Err refusal.NoRegister) (λ r. answered (write_refusal s.phase r (command_of byte)) tt)
 
+-- what it leaves
 unfoldable pub state_after_write : State → Option DriveView → ℕ → ℕ → State
 state_after_write s v n byte =
     at_register (register_numbered n) s

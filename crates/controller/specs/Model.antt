@@ -21,6 +21,7 @@ pub record ControllerModel : Type 0 where
   pub winchester : DriveModel
   pub floppy : DriveModel
 
+-- a model of these three parts
 abbrev pub model : State → DriveModel → DriveModel → ControllerModel
 model s w f = record { state = s; winchester = w; floppy = f }
 
@@ -54,6 +55,7 @@ view_of floppy head d =
       capacity = d.capacity;
     }
 
+-- what is seen of the drive that a selection names
 abbrev pub seen_at : Option Selection → ControllerModel → Option DriveView
 seen_at (Some (Winchester head)) b = Some (view_of false head b.winchester)
 seen_at (Some (Floppy head)) b = Some (view_of true head b.floppy)
@@ -68,17 +70,19 @@ abbrev pub lines_of : State → Lines
 lines_of s = record { drq = requests s.phase; intrq = s.intrq }
 
 -- ---- calls
--- a register read: its answer, and what it leaves
+-- what a register read answers
 abbrev pub read_answered : ControllerModel → ℕ → Result ℕ Refusal
 read_answered b n = read_answer_of b.state (seen b) n
 
+-- what a register read leaves
 abbrev pub after_register_read : ControllerModel → ℕ → ControllerModel
 after_register_read b n = with_state b (state_after_read b.state n)
 
--- a register write: its answer, and what it leaves
+-- what a register write answers
 abbrev pub write_answered : ControllerModel → ℕ → ℕ → Result (Unit {0}) Refusal
 write_answered b n byte = write_answer_of b.state n byte
 
+-- what a register write leaves
 abbrev pub after_register_write : ControllerModel → ℕ → ℕ → ControllerModel
 after_register_write b n byte = with_state b (state_after_write b.state (seen b) n byte)
 
@@ -93,6 +97,7 @@ turned_in (Busy j) None b = with_state b (without_drive j b.state)
 turned_in (Offering m at) sel b = b
 turned_in (Taking l at) sel b = b
 
+-- a turn in the phase and on the drive of now
 abbrev pub after_turn : ControllerModel → ControllerModel
 after_turn b = turned_in b.state.phase (selected b.state.registers.sdh) b
 

@@ -19,6 +19,7 @@ pub record Turned : Type 0 where
   pub state : State
   pub drive : DriveModel
 
+-- a state and a drive that a turn leaves
 abbrev pub turned : State → DriveModel → Turned
 turned s d = record { state = s; drive = d }
 

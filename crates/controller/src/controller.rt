@@ -1,8 +1,11 @@
 // The controller and its calls.
-ghost use Rattle.std.specs.Prelude.{◌≡◌};
+ghost use Rattle.std.specs.Prelude.{◌≡◌, ◌||◌, true};
 ghost use Rattle.task_file.specs.Failures.{last_fault};
 ghost use Rattle.task_file.specs.State.{fresh, is_busy};
-ghost use Rattle.controller.specs.Model.{model_of, KeepsDrives, seen, view_of, lines_of, made, read_answered, after_register_read, write_answered, after_register_write, after_turn, after_reset};
+ghost use Rattle.task_file.specs.Commands.{command_of};
+ghost use Rattle.task_file.specs.Beginning.{begun};
+ghost use Rattle.controller.specs.Access.{is_data, is_status, read_byte, read_effect, command_refusal, answered, unless_refused, write_effect};
+ghost use Rattle.controller.specs.Model.{model_of, with_state, KeepsDrives, seen, view_of, lines_of, made, read_answered, after_register_read, write_answered, after_register_write, after_turn, after_reset};
 
 use super::access::{Lines, Refusal};
 use super::turning::work;
@@ -89,7 +92,31 @@ impl<W: Drive, F: Drive> Controller<W, F> {
         self.state.last_fault()
     }
 
-    // A register read.
+    // The byte of a register where no rule stands against the read, and what it leaves.
+    #[inline(never)]
+    fn read_allowed(&mut self, register: Register) -> u8
+        ensures byte { result ≡ read_byte self.old.state (seen (model_of W.meaning F.meaning self.old)) register }
+        ensures after { model_of W.meaning F.meaning self.new ≡ with_state (model_of W.meaning F.meaning self.old) (read_effect self.old.state register) }
+        ensures drives { KeepsDrives self.old self.new }
+    {
+        match register {
+            Register::Data => self.state.draw(),
+            Register::Error => self.state.error(),
+            Register::Count => self.state.registers.count,
+            Register::Number => self.state.registers.number,
+            Register::Low => self.state.registers.low,
+            Register::High => self.state.registers.high,
+            Register::Sdh => self.state.registers.sdh,
+            Register::Status => {
+                let view = self.selected_view();
+                self.state.intrq = false;
+                self.state.status(view)
+            }
+        }
+    }
+
+    // A register read. A byte within a sector comes first, since most reads are that.
+    #[inline]
     #[tactic(auto, unfolding(crate::specs::Access::read_answer_of, crate::specs::Access::state_after_read))]
     pub fn read_register(&mut self, number: u8) -> Result<u8, Refusal>
         ensures answer { result ≡ read_answered (model_of W.meaning F.meaning self.old) number }
@@ -97,29 +124,50 @@ impl<W: Drive, F: Drive> Controller<W, F> {
         ensures drives { KeepsDrives self.old self.new }
     {
         let register = Register::try_from(number)?;
+        if matches!(register, Register::Data) {
+            if let Some(byte) = self.state.draw_inside() {
+                return Ok(byte);
+            }
+        }
         match (self.state.phase, register) {
             (Phase::Busy(_), Register::Status) => {
                 self.state.intrq = false;
                 Ok(0x80)
             }
             (Phase::Busy(_), _) => Err(Refusal::Busy),
-            (Phase::Offering(mode, at), Register::Data) => Ok(self.state.draw(mode, at)),
-            (_, Register::Data) => Err(Refusal::NoDataRequest),
-            (_, Register::Error) => Ok(self.state.error()),
-            (_, Register::Count) => Ok(self.state.registers.count),
-            (_, Register::Number) => Ok(self.state.registers.number),
-            (_, Register::Low) => Ok(self.state.registers.low),
-            (_, Register::High) => Ok(self.state.registers.high),
-            (_, Register::Sdh) => Ok(self.state.registers.sdh),
-            (_, Register::Status) => {
-                let view = self.selected_view();
-                self.state.intrq = false;
-                Ok(self.state.status(view))
-            }
+            (Phase::Rest | Phase::Taking(_, _), Register::Data) => Err(Refusal::NoDataRequest),
+            _ => Ok(self.read_allowed(register)),
         }
     }
 
-    // A register write.
+    // Begins a command on the drive that SDH selects now, if it selects one.
+    #[inline(never)]
+    fn begin(&mut self, command: Command)
+        ensures after { model_of W.meaning F.meaning self.new ≡ with_state (model_of W.meaning F.meaning self.old) (begun self.old.state command (seen (model_of W.meaning F.meaning self.old))) }
+        ensures drives { KeepsDrives self.old self.new }
+    {
+        let view = self.selected_view();
+        self.state.begin(command, view);
+    }
+
+    // A write to the data or the command register, where no rule but the last stands against it: a command is given by its byte.
+    #[inline(never)]
+    fn write_allowed(&mut self, register: Register, byte: u8) -> Result<(), Refusal>
+        requires { (is_data register || is_status register) ≡ true }
+        ensures answer { result ≡ answered (command_refusal register (command_of byte)) tt }
+        ensures after { model_of W.meaning F.meaning self.new ≡ with_state (model_of W.meaning F.meaning self.old) (unless_refused (command_refusal register (command_of byte)) self.old.state (write_effect self.old.state (seen (model_of W.meaning F.meaning self.old)) register byte)) }
+        ensures drives { KeepsDrives self.old self.new }
+    {
+        if let Register::Data = register {
+            self.state.put(byte);
+        } else {
+            self.begin(Command::try_from(byte)?);
+        }
+        Ok(())
+    }
+
+    // A register write. A byte within a sector comes first, since most writes are that.
+    #[inline]
     #[tactic(auto, unfolding(crate::specs::Access::write_answer_of, crate::specs::Access::state_after_write))]
     pub fn write_register(&mut self, number: u8, byte: u8) -> Result<(), Refusal>
         ensures answer { result ≡ write_answered (model_of W.meaning F.meaning self.old) number byte }
@@ -127,21 +175,21 @@ impl<W: Drive, F: Drive> Controller<W, F> {
         ensures drives { KeepsDrives self.old self.new }
     {
         let register = Register::try_from(number)?;
+        if let (Phase::Taking(_, _), Register::Data) = (self.state.phase, register) {
+            if self.state.put_inside(byte) {
+                return Ok(());
+            }
+        }
+        if self.state.phase.is_busy() {
+            return Err(Refusal::Busy);
+        }
         match (self.state.phase, register) {
-            (Phase::Busy(_), _) => Err(Refusal::Busy),
-            (Phase::Taking(load, at), Register::Data) => {
-                self.state.put(load, at, byte);
-                Ok(())
+            (_, Register::Status) | (Phase::Taking(_, _), Register::Data) => {
+                self.write_allowed(register, byte)
             }
             (_, Register::Data) => Err(Refusal::NoDataRequest),
-            (_, Register::Status) => {
-                let command = Command::try_from(byte)?;
-                let view = self.selected_view();
-                self.state.begin(command, view);
-                Ok(())
-            }
-            (Phase::Rest, kept) => {
-                self.state.registers.store(kept, byte);
+            (Phase::Rest, _) => {
+                self.state.registers.store(register, byte);
                 Ok(())
             }
             _ => Err(Refusal::DataRequest),

@@ -6,6 +6,7 @@ abbrev pub lines_from : Bool → List ℕ → ℕ
 lines_from begun [] = cond begun 1 0
 lines_from begun (byte ∷ bytes) = cond (byte == 10) (1 + lines_from false bytes) (lines_from true bytes)
 
+-- how many lines a text has
 abbrev pub line_count : List ℕ → ℕ
 line_count = lines_from false
 

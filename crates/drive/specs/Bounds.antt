@@ -8,6 +8,7 @@ pub record Measures : Type 0 where
   pub cylinders : ℕ
   pub heads : ℕ
 
+-- so many cylinders and so many heads
 abbrev pub measures : ℕ → ℕ → Measures
 measures cylinders heads = record { cylinders = cylinders; heads = heads }
 

@@ -66,6 +66,7 @@ read_of no_id = Err read_error.NoId
 read_of no_data_mark = Err read_error.NoDataMark
 read_of (wrong_bits w) = done
 
+-- what a read attempt answers: not ready, no ID, bad block, no data mark, or that it is done
 unfoldable pub read_answer : DriveModel → ℕ → ℕ → SizeCode → Result (Unit {0}) ReadError
 read_answer d head number size =
     unless d.ready (Err read_error.NotReady)
@@ -86,15 +87,18 @@ delivered (wrong_bits w) s b =
       check = inverted (from_bit (8 * length s.bytes) w) s.check;
     }
 
+-- the buffer that it hands over: of an attempt that is not done, the one that came
 unfoldable pub handed_over : DriveModel → ℕ → ℕ → SizeCode → SectorBuffer → SectorBuffer
 handed_over d head number size b =
     unless d.ready b
     (attempted (shown d head number) (track_under d head) number size b b
     (λ k. delivered (shown d head number) (slice_index_or (track_under d head) k no_sector) b))
 
+-- what it leaves of the drive: the place's first outlook entry is used up
 unfoldable pub after_read : DriveModel → ℕ → ℕ → DriveModel
 after_read d head number = unless d.ready d (attempted_at d head number)
 
+-- what a write attempt answers: not ready, protected, no ID, bad block, or that it is done
 unfoldable pub write_answer : DriveModel → ℕ → ℕ → SizeCode → Result (Unit {0}) WriteError
 write_answer d head number size =
     unless d.ready (Err write_error.NotReady)
@@ -109,6 +113,7 @@ written d head size b k =
     (slice_set (track_under d head) k (rewritten (slice_index_or (track_under d head) k no_sector) (take (bytes_of size) b.bytes) b.check))
     (sector head k (take (bytes_of size) b.bytes) b.check)
 
+-- what it leaves of the drive: one that is done replaces the sector
 unfoldable pub after_write : DriveModel → ℕ → ℕ → SizeCode → SectorBuffer → DriveModel
 after_write d head number size b =
     unless d.ready d

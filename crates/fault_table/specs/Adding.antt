@@ -17,3 +17,8 @@ add_answer es e = cond (nat_lt (length es) 32) (cond (in_range e) (Ok tt) (Err O
 -- an entry that is taken comes last; a refused one changes nothing
 abbrev pub after_add : List FaultEntry → FaultEntry → List FaultEntry
 after_add es e = cond (is_ok (add_answer es e)) (es ++ e ∷ []) es
+
+-- the entries once others were added one after another, as far as they are taken
+abbrev pub all_added : List FaultEntry → List FaultEntry → List FaultEntry
+all_added es [] = es
+all_added es (x ∷ xs) = all_added (after_add es x) xs

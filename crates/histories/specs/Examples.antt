@@ -50,16 +50,19 @@ burst_after_no_id k = cond (nat_lt k 1) no_id (wrong_bits (marked 0 1))
 abbrev pub after : DriveModel → List Call → ControllerModel
 after d calls = at d (example_drive 0 0 [] undamaged) (Turn ∷ calls)
 
+-- what a status read answers
 abbrev pub status : ControllerModel → Result ℕ Refusal
 status b = read_answered b 7
 
+-- the same so many times
 abbrev pub so_many : {A : Type 0} → ℕ → A → List A
 so_many n x = replicate n x
 
--- a read command at sector 0 of cylinder 0, in sectors of 128 bytes under CRC or ECC, and so many turns
+-- a read command at sector 0 of cylinder 0, in sectors of 128 bytes under CRC, and so many turns
 abbrev pub read_crc : ℕ → List Call
 read_crc turns = Write 6 0x60 ∷ Write 7 0x20 ∷ so_many turns Turn
 
+-- the same under ECC
 abbrev pub read_ecc : ℕ → List Call
 read_ecc turns = Write 6 0xe0 ∷ Write 7 0x20 ∷ so_many turns Turn
 
@@ -67,6 +70,7 @@ read_ecc turns = Write 6 0xe0 ∷ Write 7 0x20 ∷ so_many turns Turn
 abbrev pub format_64 : List Call
 format_64 = Write 2 64 ∷ Write 6 0x60 ∷ Write 7 0x50 ∷ []
 
+-- What is computed from the definitions.
 pub record WorkedExamples : Type 0 where
   -- of the check codes
   pub codes : Examples

@@ -11,16 +11,20 @@ use Rattle.histories.specs.declared.call.Call.TheVariants.{Read, Write, Turn, Re
 abbrev pub Answer : Type 0
 Answer = Result (Option ℕ) Refusal
 
+-- a read answers a byte
 abbrev pub byte_read : ℕ → Answer
 byte_read byte = Ok (Some byte)
 
+-- a write, a turn or a reset is done
 abbrev pub done : Answer
 done = Ok None
 
+-- the answer of a register read
 abbrev pub read_as : Result ℕ Refusal → Answer
 read_as (Ok byte) = byte_read byte
 read_as (Err why) = Err why
 
+-- the answer of a register write
 abbrev pub write_as : Result (Unit {0}) Refusal → Answer
 write_as (Ok none) = done
 write_as (Err why) = Err why

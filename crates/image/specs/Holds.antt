@@ -40,6 +40,7 @@ pub record Shape (r : List ℕ) : Type 0 where
   pub room : count_in r * bytes_of (size_in r) ≤ length r - 386
   pub marked : marks_fit r 0 (count_in r) ≡ true
 
+-- a formatted record has that shape
 pub shape_of : (r : List ℕ) → formatted r ≡ true → Shape r
 shape_of r e =
     let p = and_parts _ _ e in

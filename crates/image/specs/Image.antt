@@ -27,6 +27,7 @@ abbrev pub changed : Change → List ℕ → List ℕ
 changed (sector head k bytes check) r = with_sector k bytes check r
 changed (track head ids size check) r = with_format ids size check r
 
+-- the head under which a change is made
 abbrev pub head_of : Change → ℕ
 head_of (sector head k bytes check) = head
 head_of (track head ids size check) = head

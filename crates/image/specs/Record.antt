@@ -34,6 +34,7 @@ size_numbered (suc zero) = Bytes512
 size_numbered (suc (suc zero)) = Bytes1024
 size_numbered (suc (suc (suc n))) = Bytes128
 
+-- the size of a record's sectors
 abbrev pub size_in : List ℕ → SizeCode
 size_in r = size_numbered (code_in r)
 
@@ -75,6 +76,7 @@ sector_at r i =
       check = part (130 + 4 * i) 4 r;
     }
 
+-- its sectors, in their order
 abbrev pub sectors_in : List ℕ → List Sector
 sectors_in r = map (sector_at r) (range_with_len 0 (count_in r))
 

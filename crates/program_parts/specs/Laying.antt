@@ -2,18 +2,13 @@
 use Rattle.std.specs.Prelude.{ℕ, ◌+◌, ◌%◌, List, [], ◌∷◌, map, slice_index_or}
 use Rattle.drive.specs.declared.place.Place.{Place}
 use Rattle.fault_table.specs.declared.entry.FaultEntry.{FaultEntry}
-use Rattle.fault_table.specs.Adding.{after_add}
+use Rattle.fault_table.specs.Adding.{all_added}
 use Rattle.cue_sheet.specs.Damage.{burst_by_rule}
 use Rattle.program_parts.specs.declared.faults.Stretch.{Stretch}
 
 -- the entry that a stretch of a record's faults makes
 abbrev pub entry_for : ℕ → Place → Stretch → FaultEntry
 entry_for index place s = record { place = place; kind = s.kind; burst = burst_by_rule index; attempts = s.attempts }
-
--- the entries once others were added one after another, as far as there was room
-abbrev pub all_added : List FaultEntry → List FaultEntry → List FaultEntry
-all_added es [] = es
-all_added es (x ∷ xs) = all_added (after_add es x) xs
 
 -- the entries once the faults of the records at these places were laid, the first of which is record i: record r meets those
 -- of row r modulo 4

@@ -1,6 +1,7 @@
 // Faults that the program lays over a drive.
 ghost use Rattle.std.specs.Prelude.{◌≡◌, IfOk, map};
-ghost use Rattle.program_parts.specs.Laying.{all_added, all_laid, entry_for};
+ghost use Rattle.fault_table.specs.Adding.{all_added};
+ghost use Rattle.program_parts.specs.Laying.{all_laid, entry_for};
 
 use anyhow::anyhow;
 use cue_sheet::burst_of;

@@ -13,9 +13,9 @@ use Rattle.task_file.specs.Registers.{register_numbered, stored}
 use Rattle.task_file.specs.Commands.{command_of}
 use Rattle.task_file.specs.State.{with_registers, is_busy}
 use Rattle.task_file.specs.Beginning.{begun}
-use Rattle.task_file.specs.Moving.{put}
+use Rattle.task_file.specs.Moving.{put, put_in}
 use Rattle.controller.specs.declared.access.Refusal.TheVariants as refusal
-use Rattle.controller.specs.Access.{is_data, is_status, write_refusal, answered, unless_refused, at_register, put_in, begun_by, write_effect, write_answer_of, state_after_write}
+use Rattle.controller.specs.Access.{is_data, is_status, write_refusal, answered, unless_refused, at_register, begun_by, write_effect, write_answer_of, state_after_write}
 use Rattle.histories.specs.Runs.{write_as}
 use Rattle.round_trip.specs.Events.{is_done}
 

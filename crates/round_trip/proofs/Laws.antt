@@ -1,6 +1,6 @@
 -- The laws of same bytes and of clean reads, and the theorem whole.
 use Rattle.std.proofs.Common.{◌≡◌, ℕ, ◌+◌, ◌<◌, true, false, not, ◌||◌, List, [], ◌∷◌, ◌++◌, length, take, is_some, None, sym, ap, ◌∙◌, subst, zero-add, arith, slice_index}
-use Rattle.std.proofs.lemmas.Bool.{and_parts, and_from}
+use Rattle.std.proofs.lemmas.Bool.{and_parts, and_from, both_ways}
 use Rattle.sector.specs.Sizes.{bytes_of}
 use Rattle.drive.specs.Model.{DriveModel}
 use Rattle.task_file.specs.declared.registers.Registers.{Registers}
@@ -28,7 +28,7 @@ use Rattle.round_trip.proofs.Showings.{readable_settles, settles_readable}
 use Rattle.round_trip.proofs.Waiting.{brought_off, left_at, busy_last, busy_ends, nothing_else_moves}
 use Rattle.round_trip.proofs.Beginning.{accepted_clean, accepted_begins, begins_afresh, read_in_force}
 use Rattle.round_trip.proofs.Reading.{selects, Begins}
-use Rattle.round_trip.proofs.ReadLaws.{not_both, test_ends, first_tries, Under, way, reset, under_way, Ends, read, failed, ends}
+use Rattle.round_trip.proofs.ReadLaws.{test_ends, first_tries, Under, way, reset, under_way, Ends, read, failed, ends}
 
 -- ---- where a read begins
 -- a plain read begins at a sector that the registers name
@@ -111,11 +111,11 @@ module _ (b : ControllerModel) (m : ReadMode) (name : SectorName) (x : Writing) 
         (s.begins.written.1 ∙ ap (λ z. bytes_of (size_at z)) (sym sdh)) cs throughout
     by_end (failed why failure offering asked) =
         let d = drawing cs offered m 0 (offering asks) throughout in
-        not_both (error (runs offered cs)) (ap is_some d.failure ∙ failure) clean
+        absurd (both_ways (error (runs offered cs)) clean (ap is_some d.failure ∙ failure))
 
     same : Under b s.bay s.head m x s.begins waiting e → Gives x offered cs
     same (way k t) = by_end (ends b s.bay s.head m x s.begins k e t (request_is_not_busy offered.state.phase asks))
-    same (reset not_none test) = not_both (drq offered) asks (ap requests (test_ends e test))
+    same (reset not_none test) = absurd (both_ways (drq offered) (ap requests (test_ends e test)) asks)
 
 pub same_bytes : (w f : DriveModel) → ADrive w → ADrive f → (history : List Call) → SameBytes w f history
 same_bytes w f aw af history before c waiting cs rest m name x split comes r on raises throughout clean =
@@ -151,7 +151,7 @@ module _ (b : ControllerModel) (m : ReadMode) (name : SectorName) (x : Writing) 
         }
     shows_by (failed why failure offering asked) =
         record {
-          only = λ clean. not_both (error after) failure clean;
+          only = λ clean. absurd (both_ways (error after) clean failure);
           whenever = λ standing readable.
               let k = readable_settles x.mode here.size x.bytes s.begins.written.1 (outlook_at b here) readable in
               absurd (why standing k.0 k.1.0 k.1.1);
@@ -159,7 +159,7 @@ module _ (b : ControllerModel) (m : ReadMode) (name : SectorName) (x : Writing) 
 
     shows : Under b s.bay s.head m x s.begins waiting (runs b waiting) → Shows name
     shows (way k t) = subst Shows s.named (shows_by (ends b s.bay s.head m x s.begins k (runs b waiting) t (request_is_not_busy after.state.phase asks)))
-    shows (reset not_none test) = not_both (drq after) asks (ap requests (test_ends (runs b waiting) test))
+    shows (reset not_none test) = absurd (both_ways (drq after) (ap requests (test_ends (runs b waiting) test)) asks)
 
   -- a turn that turns BUSY off raises DRQ
   asks_by : Ends b s.bay s.head m x s.begins after → drq after ≡ true

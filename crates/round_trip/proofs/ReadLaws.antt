@@ -12,6 +12,7 @@ use Rattle.controller.specs.Model.{ControllerModel, with_state}
 use Rattle.histories.specs.declared.call.Call.{Call}
 use Rattle.histories.specs.declared.call.Call.TheVariants as call
 use Rattle.histories.specs.Runs.{called, runs}
+use Rattle.std.proofs.lemmas.Bool.{both_ways}
 use Rattle.histories.specs.Working.{InOrder}
 use Rattle.histories.proofs.Orders.{order_call}
 use Rattle.round_trip.specs.Events.{busy, Bay, SectorName, sector_named}
@@ -20,9 +21,6 @@ use Rattle.round_trip.specs.Laws.{outlook_at, StandsUnmarked, BusyThroughout, No
 use Rattle.round_trip.proofs.Ledgers.{track_same}
 use Rattle.round_trip.proofs.Waiting.{read_waits, write_waits, busy_first}
 use Rattle.round_trip.proofs.Reading.{Begins, Tries, Next, waits, offers, fails, next, settles, unsettled}
-
-pub not_both : {A : Type 0} (x : Bool) → x ≡ true → x ≡ false → A
-not_both x p q = cc
 
 -- a turn ends Test
 pub test_ends : (e : ControllerModel) → e.state.phase ≡ Busy Test → (called e call.Turn).state.phase ≡ Rest
@@ -35,7 +33,7 @@ unfolding runs
 test_stays [] e test on = test
 test_stays (call.Read n ∷ cs) e test on = let r = read_waits e n on.0 in test_stays cs _ (ap (λ (z : ControllerModel). z.state.phase) r.1 ∙ test) on.1
 test_stays (call.Write n byte ∷ cs) e test on = test_stays cs _ (ap (λ (z : ControllerModel). z.state.phase) (write_waits e n byte on.0) ∙ test) on.1
-test_stays (call.Turn ∷ cs) e test on = not_both (busy (called e call.Turn)) (busy_first (called e call.Turn) cs on.1) (ap is_busy (test_ends e test))
+test_stays (call.Turn ∷ cs) e test on = absurd (both_ways (busy (called e call.Turn)) (ap is_busy (test_ends e test)) (busy_first (called e call.Turn) cs on.1))
 test_stays (call.Reset ∷ cs) e test on = test_stays cs _ refl on.1
 
 outlook_same : (e : ControllerModel) (s : State) (name : SectorName) (i : ℕ) → outlook_at (with_state e s) name i ≡ outlook_at e name i
@@ -76,8 +74,8 @@ module _ (b : ControllerModel) (bay : Bay) (head : ℕ) (m : ReadMode) (x : Writ
 
   still_waits : (f : ControllerModel) → busy f ≡ true → Next b bay head m x begins f → (j : ℕ) × T j f
   still_waits f on (waits j u) = (j, u)
-  still_waits f on (offers j few standing settled front failure phase sdh) = not_both (busy f) on (ap is_busy phase)
-  still_waits f on (fails why failure off offering asks) = not_both (busy f) on off
+  still_waits f on (offers j few standing settled front failure phase sdh) = absurd (both_ways (busy f) (ap is_busy phase) on)
+  still_waits f on (fails why failure off offering asks) = absurd (both_ways (busy f) off on)
 
   pub under_way : (cs : List Call) (k : ℕ) (e : ControllerModel) → T k e → BusyThroughout e cs → Under cs (runs e cs)
   unfolding runs
@@ -106,6 +104,6 @@ module _ (b : ControllerModel) (bay : Bay) (head : ℕ) (m : ReadMode) (x : Writ
   ends k e t off = by_next (next b bay head m x begins k e t)
     where
       by_next : Next b bay head m x begins (called e call.Turn) → Ends (called e call.Turn)
-      by_next (waits j u) = not_both (busy (called e call.Turn)) (ap is_busy u.phase) off
+      by_next (waits j u) = absurd (both_ways (busy (called e call.Turn)) off (ap is_busy u.phase))
       by_next (offers j few standing settled front failure phase sdh) = read j few standing settled front failure phase sdh
       by_next (fails why failure off offering asks) = failed why failure offering asks

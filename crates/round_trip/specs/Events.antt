@@ -25,12 +25,15 @@ use Rattle.histories.specs.Runs.{Answer, answer_to, called}
 abbrev pub busy : ControllerModel → Bool
 busy b = is_busy b.state.phase
 
+-- bytes are asked for or offered
 abbrev pub drq : ControllerModel → Bool
 drq b = requests b.state.phase
 
+-- the last command failed
 abbrev pub error : ControllerModel → Bool
 error b = is_some b.state.failure
 
+-- a call is done, and gives no byte
 abbrev pub is_done : Answer → Bool
 is_done (Ok None) = true
 is_done (Ok (Some byte)) = false
@@ -57,12 +60,14 @@ pub data Bay : Type 0 where
   winchester : Bay
   floppy : Bay
 
+-- two bays are one
 abbrev pub same_bay : Bay → Bay → Bool
 same_bay winchester winchester = true
 same_bay winchester floppy = false
 same_bay floppy winchester = false
 same_bay floppy floppy = true
 
+-- the drive in a bay
 abbrev pub drive_in : Bay → ControllerModel → DriveModel
 drive_in winchester b = b.winchester
 drive_in floppy b = b.floppy
@@ -79,19 +84,23 @@ pub record SectorName : Type 0 where
   pub number : ℕ
   pub size : SizeCode
 
+-- two tracks are one
 abbrev pub same_track : TrackName → TrackName → Bool
 same_track t u = same_bay t.bay u.bay && (t.cylinder == u.cylinder && t.head == u.head)
 
+-- two sizes are one
 abbrev pub same_size : SizeCode → SizeCode → Bool
 same_size a b = number_of a == number_of b
 
+-- two names are of one sector
 abbrev pub same_sector : SectorName → SectorName → Bool
 same_sector s t = same_track s.track t.track && (s.number == t.number && same_size s.size t.size)
 
--- the track and the sector that the registers name, on a drive under a head
+-- the track that the registers name, on a drive under a head
 abbrev pub track_named : Bay → ℕ → Registers → TrackName
 track_named bay head r = record { bay = bay; cylinder = cylinder_of r; head = head }
 
+-- and the sector there
 abbrev pub sector_named : Bay → ℕ → Registers → SectorName
 sector_named bay head r = record { track = track_named bay head r; number = r.number; size = size_at r.sdh }
 
@@ -122,6 +131,7 @@ format_event bay head b =
     (track_formatted (track_named bay head r) (min (sector_count r) 64) (size_at r.sdh) (mode_at r.sdh))
     nothing
 
+-- what a turn does to the track under a head of the drive in a bay
 abbrev pub turn_event_on : Phase → Bay → ℕ → ControllerModel → Event
 turn_event_on Rest bay head b = nothing
 turn_event_on (Busy Test) bay head b = nothing
@@ -133,6 +143,7 @@ turn_event_on (Busy Format) bay head b = format_event bay head b
 turn_event_on (Offering m at) bay head b = nothing
 turn_event_on (Taking l at) bay head b = nothing
 
+-- what a turn does to the tracks of the drive that SDH selects
 abbrev pub turn_event : Option Selection → ControllerModel → Event
 turn_event (Some (Winchester head)) b = turn_event_on b.state.phase winchester head b
 turn_event (Some (Floppy head)) b = turn_event_on b.state.phase floppy head b

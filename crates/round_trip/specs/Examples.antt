@@ -20,10 +20,11 @@ use Rattle.round_trip.specs.Laws.{PlainRead, StandsUnmarked, Readable, used_bits
 abbrev pub shows : ℕ → Showing
 shows k = cond (k == 1) no_id (wrong_bits (marked 1 0b1_0011))
 
--- a Winchester without sectors, with room for 8,192 bytes on a track, and an undamaged drive beside it
+-- a Winchester without sectors, with room for 8,192 bytes on a track
 abbrev pub disk : DriveModel
 disk = example_drive 8192 0 [] shows
 
+-- an undamaged drive beside it
 abbrev pub beside : DriveModel
 beside = example_drive 0 0 [] undamaged
 
@@ -41,6 +42,7 @@ sheet = counted_down 128
 abbrev pub place : SectorName
 place = record { track = record { bay = winchester; cylinder = 1; head = 0 }; number = 5; size = Bytes128 }
 
+-- what is written there, by a plain write under ECC
 abbrev pub writing : Writing
 writing = record { bytes = sheet; mode = Ecc; plain = true }
 
@@ -59,6 +61,7 @@ before = formatting ++ (call.Write 7 0x30 ∷ map (call.Write 0) sheet ++ (call.
 abbrev pub reading : Call
 reading = call.Write 7 0x20
 
+-- its bits: D, M and L are 0
 abbrev pub mode : ReadMode
 mode = record { dma = false; multiple = false; long = false }
 
@@ -74,6 +77,7 @@ drawing = replicate 127 (call.Read 0)
 abbrev pub started : ControllerModel
 started = at disk beside (before ++ (reading ∷ []))
 
+-- the turn that raises DRQ is made
 abbrev pub offered : ControllerModel
 offered = called (runs started waiting) call.Turn
 

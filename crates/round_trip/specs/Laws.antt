@@ -57,6 +57,7 @@ named_by (Some (Winchester head)) b = Some (sector_named winchester head b.state
 named_by (Some (Floppy head)) b = Some (sector_named floppy head b.state.registers)
 named_by None b = None
 
+-- the sector that the registers name now, if SDH selects a drive
 abbrev pub sector_now : ControllerModel → Option SectorName
 sector_now b = named_by (selected b.state.registers.sdh) b
 
@@ -97,6 +98,7 @@ abbrev pub DrqThroughout : ControllerModel → List Call → Type 0
 DrqThroughout b [] = drq b ≡ true
 DrqThroughout b (c ∷ cs) = (drq b ≡ true) × (accepts b c ≡ false) × DrqThroughout (called b c) cs
 
+-- the answer of a read that gives a byte
 abbrev pub is_byte : Answer → Bool
 is_byte (Ok (Some byte)) = true
 is_byte (Ok None) = false
@@ -122,6 +124,7 @@ turn_count (call.Write n byte ∷ cs) = turn_count cs
 turn_count (call.Turn ∷ cs) = suc (turn_count cs)
 turn_count (call.Reset ∷ cs) = turn_count cs
 
+-- no master reset is among the calls
 abbrev pub NoReset : List Call → Type 0
 NoReset [] = Unit {0}
 NoReset (call.Read n ∷ cs) = NoReset cs

@@ -24,6 +24,7 @@ pub record Writing : Type 0 where
 abbrev pub Ledger : Type 0
 Ledger = SectorName → Option Writing
 
+-- nothing is written yet
 abbrev pub empty_ledger : Ledger
 empty_ledger s = None
 
@@ -60,6 +61,7 @@ taken_by b (call.Write n byte) taken = cond (n == 0 && is_done (answer_to b (cal
 taken_by b call.Turn taken = taken
 taken_by b call.Reset taken = taken
 
+-- the command in force, which is the last accepted one, after a call
 abbrev pub forced_by : ControllerModel → Call → Option Command → Option Command
 forced_by b (call.Read n) o = o
 forced_by b (call.Write n byte) o = cond (accepts b (call.Write n byte)) (command_of byte) o

@@ -9,6 +9,7 @@ pub record Heard : Type 0 where
   pub board : ControllerModel
   pub sum : ℕ
 
+-- a controller, and the sum of what was heard of it
 abbrev pub heard : ControllerModel → ℕ → Heard
 heard b sum = record { board = b; sum = sum }
 
@@ -31,6 +32,7 @@ number_written (Err why) = refusal_number why
 abbrev pub read : ℕ → Heard → Heard
 read n h = heard (after_register_read h.board n) (with_number h.sum (number_read (read_answered h.board n)))
 
+-- a register write, and the sum with its answer
 abbrev pub write : ℕ → ℕ → Heard → Heard
 write n byte h = heard (after_register_write h.board n byte) (with_number h.sum (number_written (write_answered h.board n byte)))
 
@@ -52,6 +54,7 @@ drawn n h = repeated (λ _. read 0) n h
 abbrev pub given : ℕ → ℕ → Heard → Heard
 given number n h = repeated (λ k. write 0 ((k % 256 + number) % 256)) n h
 
+-- so many turns
 abbrev pub turned : ℕ → Heard → Heard
 turned n h = repeated (λ _. turn) n h
 
@@ -80,6 +83,7 @@ reads turns rounds h = repeated (λ k. sector_read turns (k % 8)) rounds (ready 
 unfoldable pub writes : ℕ → Heard → Heard
 writes rounds h = repeated (λ k. sector_written (k % 8)) rounds (ready h)
 
+-- five refused accesses, so many times
 abbrev pub refusals : ℕ → Heard → Heard
 refusals rounds h = repeated (λ _. refused) rounds h
 

@@ -19,17 +19,16 @@ fn access_read<W: Drive, F: Drive>(
     controller.read_register(number)
 }
 
-// A register write, likewise.
+// A register write, likewise: 0 where it is done, or the number of the refusal.
 #[inline(never)]
-fn access_write<W: Drive, F: Drive>(
-    controller: &mut Controller<W, F>,
-    number: u8,
-    byte: u8,
-) -> Result<(), Refusal>
-    ensures answer { result ≡ write_answered (model_of W.meaning F.meaning controller.old) number byte }
+fn access_write<W: Drive, F: Drive>(controller: &mut Controller<W, F>, number: u8, byte: u8) -> u8
+    ensures answer { result ≡ number_written (write_answered (model_of W.meaning F.meaning controller.old) number byte) }
     ensures after { model_of W.meaning F.meaning controller.new ≡ after_register_write (model_of W.meaning F.meaning controller.old) number byte }
 {
-    controller.write_register(number, byte)
+    match controller.write_register(number, byte) {
+        Ok(()) => 0,
+        Err(why) => u8::from(why),
+    }
 }
 
 // One more number in a sum of 32 bits.
@@ -45,16 +44,6 @@ fn number_read(answer: Result<u8, Refusal>) -> u8
 {
     match answer {
         Ok(byte) => byte,
-        Err(why) => u8::from(why),
-    }
-}
-
-// 0 for a write that is done, or the number of the refusal.
-fn number_written(answer: Result<(), Refusal>) -> u8
-    ensures { result ≡ number_written answer }
-{
-    match answer {
-        Ok(()) => 0,
         Err(why) => u8::from(why),
     }
 }
@@ -75,7 +64,7 @@ pub fn write<W: Drive, F: Drive>(
 ) -> u32
     ensures { heard (model_of W.meaning F.meaning controller.new) result ≡ write number byte (heard (model_of W.meaning F.meaning controller.old) sum) }
 {
-    with_number(sum, number_written(access_write(controller, number, byte)))
+    with_number(sum, access_write(controller, number, byte))
 }
 
 // So many reads of the data register.

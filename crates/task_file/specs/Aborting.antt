@@ -15,6 +15,7 @@ use Rattle.task_file.specs.Commands.{writes, is_long}
 abbrev pub is_unusable : DriveView → Bool
 is_unusable v = not v.ready || (v.protected && not v.floppy)
 
+-- the code is ECC
 abbrev pub is_ecc : CheckMode → Bool
 is_ecc Ecc = true
 is_ecc Crc = false

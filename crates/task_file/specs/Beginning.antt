@@ -37,5 +37,6 @@ abbrev pub begun_from : State → Command → Option DriveView → State
 begun_from s c v =
     cond (aborts c s.registers v) (failed (with_note s (notes c v)) Aborted) (with_phase s (first_phase c))
 
+-- an accepted command: failure, flags and line are cleared, and it is aborted or begins
 unfoldable pub begun : State → Command → Option DriveView → State
 begun s c v = begun_from (cleared (registers_for c s.registers) s.buffer) c v

@@ -9,6 +9,7 @@ use Rattle.task_file.specs.declared.command.ReadMode.{ReadMode}
 use Rattle.task_file.specs.declared.state.Job.TheVariants as job
 use Rattle.task_file.specs.declared.state.Load.{Load}
 use Rattle.task_file.specs.declared.state.Load.TheVariants.{Sector, Track}
+use Rattle.task_file.specs.declared.state.Phase.{Phase}
 use Rattle.task_file.specs.declared.state.Phase.TheVariants.{Rest, Busy, Offering, Taking}
 use Rattle.task_file.specs.declared.state.State.{State}
 use Rattle.task_file.specs.Registers.{size_at, mode_at}
@@ -41,7 +42,33 @@ unfoldable pub drawn : State → ReadMode → ℕ → State
 drawn s m at =
     cond (nat_lt at (moved_length (size_at s.registers.sdh) m.long - 1)) (with_phase s (Offering m (at + 1))) (all_drawn s m)
 
+-- the byte that is offered; in another phase 0
+abbrev pub offered_in : Phase → State → ℕ
+offered_in Rest s = 0
+offered_in (Busy j) s = 0
+offered_in (Offering m at) s = byte_at s.buffer (bytes_of (size_at s.registers.sdh)) at
+offered_in (Taking l at) s = 0
+
+-- whether a place stands before that of the sector's last byte
+abbrev pub is_inside : ℕ → State → Bool
+is_inside at s = nat_lt at (bytes_of (size_at s.registers.sdh) - 1)
+
+-- whether the byte that is offered stands there
+abbrev pub offers_inside : Phase → State → Bool
+offers_inside Rest s = false
+offers_inside (Busy j) s = false
+offers_inside (Offering m at) s = is_inside at s
+offers_inside (Taking l at) s = false
+
+-- it was drawn; in another phase nothing changes
+abbrev pub drawn_in : Phase → State → State
+drawn_in Rest s = s
+drawn_in (Busy j) s = s
+drawn_in (Offering m at) s = drawn s m at
+drawn_in (Taking l at) s = s
+
 -- ---- bytes taken
+-- four check bytes come too
 abbrev pub load_is_long : Load → Bool
 load_is_long (Sector m) = m.long
 load_is_long Track = false
@@ -65,3 +92,17 @@ unfoldable pub put : State → Load → ℕ → ℕ → State
 put s l at byte =
     let t = with_buffer s (with_byte s.buffer (bytes_of (size_at s.registers.sdh)) at byte) in
     cond (nat_lt at (moved_length (size_at s.registers.sdh) (load_is_long l) - 1)) (with_phase t (Taking l (at + 1))) (filled t l)
+
+-- whether the byte that is asked for goes before the sector's last
+abbrev pub takes_inside : Phase → State → Bool
+takes_inside Rest s = false
+takes_inside (Busy j) s = false
+takes_inside (Offering m at) s = false
+takes_inside (Taking l at) s = is_inside at s
+
+-- it was taken; in another phase it is dropped
+abbrev pub put_in : Phase → State → ℕ → State
+put_in Rest s byte = s
+put_in (Busy j) s byte = s
+put_in (Offering m at) s byte = s
+put_in (Taking l at) s byte = put s l at byte

@@ -21,22 +21,27 @@ abbrev pub with_registers : State → Registers → State
 with_registers s r =
     record { registers = r; failure = s.failure; corrected = s.corrected; note = s.note; intrq = s.intrq; phase = s.phase; buffer = s.buffer }
 
+-- a state with a failure
 abbrev pub with_failure : State → Failure → State
 with_failure s f =
     record { registers = s.registers; failure = Some f; corrected = s.corrected; note = s.note; intrq = s.intrq; phase = s.phase; buffer = s.buffer }
 
+-- with the protection note so
 abbrev pub with_note : State → Bool → State
 with_note s n =
     record { registers = s.registers; failure = s.failure; corrected = s.corrected; note = n; intrq = s.intrq; phase = s.phase; buffer = s.buffer }
 
+-- with the interrupt line so
 abbrev pub with_intrq : State → Bool → State
 with_intrq s i =
     record { registers = s.registers; failure = s.failure; corrected = s.corrected; note = s.note; intrq = i; phase = s.phase; buffer = s.buffer }
 
+-- in another phase
 abbrev pub with_phase : State → Phase → State
 with_phase s p =
     record { registers = s.registers; failure = s.failure; corrected = s.corrected; note = s.note; intrq = s.intrq; phase = p; buffer = s.buffer }
 
+-- with another buffer
 abbrev pub with_buffer : State → SectorBuffer → State
 with_buffer s b =
     record { registers = s.registers; failure = s.failure; corrected = s.corrected; note = s.note; intrq = s.intrq; phase = s.phase; buffer = b }

@@ -80,16 +80,16 @@ impl TryFrom<u8> for Command {
 
     ghost try_from_gives = { λ byte made. result_ok made ≡ command_of byte };
 
-    // The command that a byte gives, if it is accepted.
+    // The command that a byte gives, if it is accepted: its upper four bits say which, and of some its lower ones how.
     #[tactic(auto, unfolding(crate::specs::Commands::command_of))]
     fn try_from(byte: u8) -> Result<Command, NoSuchCommand> {
-        match byte {
-            0x10..=0x1f => Ok(Command::Restore),
-            0x20..=0x2f => read_given(byte),
-            0x30..=0x3f => write_given(byte),
-            0x50 => Ok(Command::Format),
-            0x70..=0x7f => Ok(Command::Seek),
-            0x90 => Ok(Command::Test),
+        match byte / 16 {
+            1 => Ok(Command::Restore),
+            2 => read_given(byte),
+            3 => write_given(byte),
+            5 if byte == 0x50 => Ok(Command::Format),
+            7 => Ok(Command::Seek),
+            9 if byte == 0x90 => Ok(Command::Test),
             _ => Err(NoSuchCommand),
         }
     }

@@ -1,8 +1,8 @@
 // Bytes that move between the host and the buffer.
-ghost use Rattle.std.specs.Prelude.{◌≡◌, ◌+◌, cond};
+ghost use Rattle.std.specs.Prelude.{◌≡◌, ◌+◌, cond, Some, None};
 ghost use Rattle.sector.specs.Sizes.{bytes_of};
 ghost use Rattle.task_file.specs.Registers.{size_at};
-ghost use Rattle.task_file.specs.Moving.{byte_at, with_byte, moved_length, load_is_long, all_drawn, drawn, checked, filled, put};
+ghost use Rattle.task_file.specs.Moving.{byte_at, with_byte, moved_length, load_is_long, all_drawn, drawn, offered_in, offers_inside, drawn_in, checked, filled, put, takes_inside, put_in};
 
 use super::command::ReadMode;
 use super::state::{Job, Load, Phase, ReadJob, State, WriteJob};
@@ -58,12 +58,16 @@ impl State {
         }
     }
 
-    // The byte offered at a place goes out.
+    // The byte that is offered goes out; where none is, 0 does.
+    #[inline(never)]
     #[tactic(auto, unfolding(crate::specs::Moving::drawn))]
-    pub fn draw(&mut self, mode: ReadMode, at: u16) -> u8
-        ensures byte { result ≡ byte_at self.old.buffer (bytes_of (size_at self.old.registers.sdh)) at }
-        ensures after { self.new ≡ drawn self.old mode at }
+    pub fn draw(&mut self) -> u8
+        ensures byte { result ≡ offered_in self.old.phase self.old }
+        ensures after { self.new ≡ drawn_in self.old.phase self.old }
     {
+        let Phase::Offering(mode, at) = self.phase else {
+            return 0;
+        };
         let size = self.registers.size();
         let byte = byte_at(&self.buffer, size, at);
         if at < moved_length(size, mode.long) - 1 {
@@ -72,6 +76,24 @@ impl State {
             self.finish_drawing(mode);
         }
         byte
+    }
+
+    // The byte that is offered goes out, if it stands before the sector's last: then nothing but the place changes.
+    #[inline]
+    #[tactic(auto, unfolding(crate::specs::Moving::drawn))]
+    pub fn draw_inside(&mut self) -> Option<u8>
+        ensures byte { result ≡ cond (offers_inside self.old.phase self.old) (Some (offered_in self.old.phase self.old)) None }
+        ensures after { self.new ≡ cond (offers_inside self.old.phase self.old) (drawn_in self.old.phase self.old) self.old }
+    {
+        let last = self.registers.size().bytes() - 1;
+        if let Phase::Offering(_, at) = &mut self.phase {
+            let place = *at as usize;
+            if place < last {
+                *at += 1;
+                return Some(self.buffer.bytes[place]);
+            }
+        }
+        None
     }
 
     // The check bytes of a plain write are made of its bytes.
@@ -97,11 +119,15 @@ impl State {
         }
     }
 
-    // A byte comes in at a place.
+    // A byte comes in; where none is asked for, it is dropped.
+    #[inline(never)]
     #[tactic(auto, unfolding(crate::specs::Moving::put))]
-    pub fn put(&mut self, load: Load, at: u16, byte: u8)
-        ensures { self.new ≡ put self.old load at byte }
+    pub fn put(&mut self, byte: u8)
+        ensures { self.new ≡ put_in self.old.phase self.old byte }
     {
+        let Phase::Taking(load, at) = self.phase else {
+            return;
+        };
         let size = self.registers.size();
         put_at(&mut self.buffer, size, at, byte);
         if at < moved_length(size, load.is_long()) - 1 {
@@ -109,6 +135,25 @@ impl State {
         } else {
             self.finish_taking(load);
         }
+    }
+
+    // A byte comes in, if it goes before the sector's last: then nothing but the buffer and the place changes.
+    #[inline]
+    #[tactic(auto, unfolding(crate::specs::Moving::put))]
+    pub fn put_inside(&mut self, byte: u8) -> bool
+        ensures answer { result ≡ takes_inside self.old.phase self.old }
+        ensures after { self.new ≡ cond (takes_inside self.old.phase self.old) (put_in self.old.phase self.old byte) self.old }
+    {
+        let last = self.registers.size().bytes() - 1;
+        if let Phase::Taking(_, at) = &mut self.phase {
+            let place = *at as usize;
+            if place < last {
+                *at += 1;
+                self.buffer.bytes[place] = byte;
+                return true;
+            }
+        }
+        false
     }
 }
 

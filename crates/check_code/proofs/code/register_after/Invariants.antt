@@ -1,9 +1,12 @@
--- The register after the bytes so far.
+-- The register after the bytes so far: eight at a time, and then the rest one by one.
 use Rattle.std.proofs.Common.{◌≡◌, ◌*◌}
 use Rattle.sector.specs.Bits.{bit_at}
 use Rattle.check_code.specs.Code.{enter, fold}
 use Rattle.check_code.specs.Aligned.{aligned}
 use Rattle.check_code.proofs.code.register_after.Given as goal
 
+abbrev pub invariant-loop-eight : goal.invariant-loop-eight
+invariant-loop-eight g l = l.register ≡ fold (enter (aligned g.C.CheckCode.code)) l.initial.register (bit_at l.bytes) (64 * l.eight-index)
+
 abbrev pub invariant-loop-byte : goal.invariant-loop-byte
-invariant-loop-byte g l = l.register ≡ fold (enter (aligned g.C.CheckCode.code)) l.initial.register (bit_at l.bytes) (8 * l.byte-index)
+invariant-loop-byte g l = l.register ≡ fold (enter (aligned g.C.CheckCode.code)) l.initial.register (bit_at l.rest) (8 * l.byte-index)

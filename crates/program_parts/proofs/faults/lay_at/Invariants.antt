@@ -1,6 +1,7 @@
 -- What is left of the stretches, from here on, adds what all of them add from the start.
 use Rattle.std.proofs.Common.{◌≡◌, map, drop}
-use Rattle.program_parts.specs.Laying.{all_added, entry_for}
+use Rattle.fault_table.specs.Adding.{all_added}
+use Rattle.program_parts.specs.Laying.{entry_for}
 use Rattle.program_parts.proofs.faults.lay_at.Given as goal
 
 abbrev pub invariant-loop-stretch : goal.invariant-loop-stretch
