@@ -1,4 +1,4 @@
-// The search for the burst that a difference tells of.
+//! The search for the burst that a difference tells of.
 ghost use Rattle.std.specs.Prelude.{◌≡◌, ◌-◌, ◌/◌, ◌%◌, ◌^◌, cond, MatchOption, nat_eq, nat_lt};
 ghost use Rattle.check_code.specs.Code.{ecc_code, step, append, fold};
 ghost use Rattle.check_code.specs.Aligned.{steps};
@@ -7,7 +7,8 @@ ghost use Rattle.burst.specs.Search.{bits_of, first_burst, NoneFits, Fits};
 use check_code::{CheckCode, Ecc};
 use sector::{Burst, SizeCode};
 
-// X^28 + X^26 + X^19 + X^17 + X^10 + X^6 + X^2 + 1, bit i for X^i: the polynomial without X^32, which falls out of the register.
+// X^28 + X^26 + X^19 + X^17 + X^10 + X^6 + X^2 + 1, bit i for X^i: the polynomial without X^32,
+// which falls out of the register.
 const DIVISOR: u32 = 0x140a_0445;
 
 // One shift of the register, less the polynomial where its top bit falls out.
@@ -18,7 +19,8 @@ fn shift(register: u32) -> u32
     (register << 1) ^ (DIVISOR * (register >> 31))
 }
 
-// Sixteen shifts at once, which two bytes of zeros make: the lower half moves up, and the tables shift the upper one.
+// Sixteen shifts at once, which two bytes of zeros make: the lower half moves up, and the tables
+// shift the upper one.
 #[tactic(auto, using(crate::proofs::Shift::two_bytes_is))]
 fn shifted_by_two(register: u32) -> u32
     ensures { result ≡ steps ecc_code 16 register }
@@ -38,8 +40,9 @@ fn one_taken_back(size: SizeCode) -> u32
     }
 }
 
-// The register from which as many shifts lead to the difference. What shifts make of a sum is the sum of what they make of
-// each part, so it is put together from that of 1, bit by bit from the top.
+// The register from which as many shifts lead to the difference. What shifts make of a sum is the
+// sum of what they make of each part, so it is put together from that of 1, bit by bit from the
+// top.
 fn taken_back(difference: u32, size: SizeCode) -> u32
     ensures { steps ecc_code (bits_of size - 20) result ≡ difference }
 {
@@ -59,15 +62,17 @@ fn mirrored(pattern: u8) -> u32
     u32::from(pattern.reverse_bits() >> 3)
 }
 
-// How many first bits a register may show that is taken back to the last bit of a pair of bytes: all sixteen of the pair, or
-// none where a bit above the low twenty is set, so that most pairs are passed at once.
+// How many first bits a register may show that is taken back to the last bit of a pair of bytes:
+// all sixteen of the pair, or none where a bit above the low twenty is set, so that most pairs are
+// passed at once.
 fn firsts_seen(register: u32) -> u16
     ensures { result ≡ cond (nat_lt register (2 ^ 20)) 16 0 }
 {
     if register < 1 << 20 { 16 } else { 0 }
 }
 
-// How many of the sixteen odd patterns a register may show at its low end: none where its top bit is not a mirrored pattern's.
+// How many of the sixteen odd patterns a register may show at its low end: none where its top bit
+// is not a mirrored pattern's.
 fn halves_seen(register: u32) -> u8
     ensures { result ≡ cond (nat_eq (register / 16) 1) 16 0 }
 {
@@ -81,7 +86,8 @@ fn ends_within(pattern: u8, room: u16) -> bool
     room >= 8 || pattern >> room == 0
 }
 
-// The burst with the smallest first bit, and then the smallest pattern, whose amount in a sector of this size is the difference.
+/// The burst with the smallest first bit, and then the smallest pattern, whose amount in a sector
+/// of this size is the difference; `None` where no burst has it.
 pub fn find_burst(difference: u32, size: SizeCode) -> Option<Burst>
     ensures first { result ≡ first_burst size difference }
     ensures only { MatchOption result (NoneFits size difference) (λ b. Fits size difference b) }
@@ -90,8 +96,8 @@ pub fn find_burst(difference: u32, size: SizeCode) -> Option<Burst>
     let mut register = taken_back(difference, size);
     let mut next = shifted_by_two(register);
     let mut found = None;
-    // Loops that a label leaves show the order of the search; a chain would hide it, and the registers that go along: this
-    // pair's and the next one's, of which neither waits for what the tables make of the other.
+    // This pair's register and the next one's go along, so that neither waits for what the tables
+    // make of the other.
     'search: for pair in 0..bits / 16 {
         for bit in 0..firsts_seen(register) {
             let first = 16 * pair + bit;

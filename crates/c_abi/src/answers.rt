@@ -1,4 +1,4 @@
-// Lists of calls on a board, with every answer.
+//! Lists of calls on a board, with every answer.
 ghost use Rattle.std.specs.Prelude.{◌≡◌, IfOk, if◌then◌else◌};
 ghost use Rattle.controller.specs.Model.{model_of};
 ghost use Rattle.c_abi.specs.Board.{board_model, fitting};
@@ -10,24 +10,30 @@ use drive::Drive;
 use histories::{Answer, Call, make_call};
 use std::alloc::{AllocError, Global};
 
-// A call, as C gives it: a read of a register, a write to one, a turn, or a master reset.
+/// A call, as C gives it: a read of a register, a write to one, a turn, or a master reset.
 #[repr(C)]
 #[derive(Clone, Copy)]
 pub struct PlainCall {
+    /// 0 reads a register, 1 writes one, 2 is a turn, and any other is a master reset.
     pub kind: u8,
+    /// The register of an access.
     pub number: u8,
+    /// The byte of a write.
     pub byte: u8,
 }
 
-// What a call answers, and what the controller shows once it is made.
+/// What a call answers, and what the controller shows once it is made.
 #[repr(C)]
 #[derive(Clone, Copy)]
 pub struct PlainAnswer {
+    /// The number of the refusal, from 1 to 5, or 0.
     pub refusal: u8,
+    /// The byte that a read gave, or 0.
     pub byte: u8,
     pub drq: bool,
     pub intrq: bool,
     pub busy: bool,
+    /// The last fault, here and in the fields below; all are 0 where there is none.
     pub layer: u8,
     pub error: u8,
     pub head: u8,
@@ -82,8 +88,11 @@ fn all_answers<W: Drive, F: Drive>(
     heap: Global,
     calls: &[PlainCall],
 ) -> Result<Vec<PlainAnswer>, AllocError>
-    ensures answers { IfOk result (λ v. v.items ≡ all_shown (model_of W.meaning F.meaning controller.old) calls.now) }
-    ensures after { IfOk result (λ _. model_of W.meaning F.meaning controller.new ≡ run_of (model_of W.meaning F.meaning controller.old) calls.now) }
+    ensures answers { IfOk result
+        (λ v. v.items ≡ all_shown (model_of W.meaning F.meaning controller.old) calls.now) }
+    ensures after { IfOk result
+        (λ _. model_of W.meaning F.meaning controller.new
+        ≡ run_of (model_of W.meaning F.meaning controller.old) calls.now) }
 {
     let mut answers = Vec::with_capacity(heap, calls.len())?;
     for call in calls {
@@ -93,7 +102,8 @@ fn all_answers<W: Drive, F: Drive>(
     Ok(answers)
 }
 
-// Makes the calls on a board that is made now, over images with these bytes; false where memory is wanting.
+/// Makes the calls on a board that is made now, over images with these bytes; false where memory is
+/// wanting.
 #[unsafe(no_mangle)]
 pub extern "C" fn disk_answers(
     heap: Global,
@@ -105,9 +115,18 @@ pub extern "C" fn disk_answers(
     calls: &[PlainCall],
     answers: &mut [PlainAnswer],
 ) -> bool
-    ensures answers { answers.new ≡ (if result then fitting (all_shown (board_model winchester.now winchester_bytes.old faults.now floppy.now floppy_bytes.old) calls.now) answers.old else answers.old) }
-    ensures winchester { winchester_bytes.new ≡ (if result then fitting (run_of (board_model winchester.now winchester_bytes.old faults.now floppy.now floppy_bytes.old) calls.now).winchester.memory winchester_bytes.old else winchester_bytes.old) }
-    ensures floppy { floppy_bytes.new ≡ (if result then fitting (run_of (board_model winchester.now winchester_bytes.old faults.now floppy.now floppy_bytes.old) calls.now).floppy.memory floppy_bytes.old else floppy_bytes.old) }
+    ensures answers { answers.new ≡ (if result
+        then fitting (all_shown (board_model winchester.now winchester_bytes.old faults.now
+        floppy.now floppy_bytes.old) calls.now) answers.old
+        else answers.old) }
+    ensures winchester { winchester_bytes.new ≡ (if result
+        then fitting (run_of (board_model winchester.now winchester_bytes.old faults.now
+        floppy.now floppy_bytes.old) calls.now).winchester.memory winchester_bytes.old
+        else winchester_bytes.old) }
+    ensures floppy { floppy_bytes.new ≡ (if result
+        then fitting (run_of (board_model winchester.now winchester_bytes.old faults.now
+        floppy.now floppy_bytes.old) calls.now).floppy.memory floppy_bytes.old
+        else floppy_bytes.old) }
 {
     let made = board(
         heap,

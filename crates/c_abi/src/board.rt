@@ -1,4 +1,5 @@
-// A board whose parts C describes: a controller over a Winchester image under faults, and a floppy image.
+//! A board whose parts C describes: a controller over a Winchester image under faults, and a floppy
+//! image.
 ghost use Rattle.std.specs.Prelude.{◌≡◌, IfOk, [], length, map};
 ghost use Rattle.drive.specs.Bounds.{measures};
 ghost use Rattle.controller.specs.Model.{model_of};
@@ -13,31 +14,36 @@ use image::{Floppy, Image, Make, Winchester, fitted};
 use sector::Burst;
 use std::alloc::{AllocError, Global};
 
-// An image's measures, as C gives them.
+/// An image's measures, as C gives them.
 #[repr(C)]
 #[derive(Clone, Copy)]
 pub struct ImageMeasures {
     pub cylinders: u16,
     pub heads: u8,
     pub protected: bool,
+    /// How many bytes of sectors a track has room for.
     pub capacity: u32,
 }
 
-// A fault, as C gives it: its kind by its number, where a number that no kind has stands for wrong bits.
+/// A fault, as C gives it: its kind by its number, where a number that no kind has stands for wrong
+/// bits.
 #[repr(C)]
 #[derive(Clone, Copy)]
 pub struct PlainFault {
     pub cylinder: u16,
     pub head: u8,
     pub number: u8,
+    /// 1 is no ID, 2 no data mark, and any other wrong bits.
     pub kind: u8,
     pub pattern: u8,
     pub first: u16,
     pub attempts: u16,
 }
 
+/// A Winchester image in its bay, under faults.
 pub type WinchesterUnit = FaultTable<Bay<Image<Winchester>>>;
 
+/// A floppy image in its bay.
 pub type FloppyUnit = Bay<Image<Floppy>>;
 
 impl ImageMeasures {
@@ -82,7 +88,9 @@ fn bay<M: Make>(
     asked: ImageMeasures,
     bytes: &[u8],
 ) -> Result<Bay<Image<M>>, AllocError>
-    ensures { IfOk result (λ b. ⟦<Bay<Image<M>> as Drive>⟧.meaning b ≡ bay_model (measures M.MOST_CYLINDERS M.MOST_HEADS) asked bytes.now) }
+    ensures { IfOk result
+        (λ b. ⟦<Bay<Image<M>> as Drive>⟧.meaning b
+        ≡ bay_model (measures M.MOST_CYLINDERS M.MOST_HEADS) asked bytes.now) }
 {
     let memory = Vec::from_slice(heap, bytes)?;
     Ok(fitted(Image::<M>::new(asked.geometry(), asked.protected, memory)))
@@ -90,7 +98,8 @@ fn bay<M: Make>(
 
 // The faults laid over a drive, as far as they are taken.
 fn lay<D: Drive>(table: &mut FaultTable<D>, faults: &[PlainFault])
-    ensures entries { table.new.faults.items ≡ all_added table.old.faults.items (map entry_of faults.now) }
+    ensures entries { table.new.faults.items
+        ≡ all_added table.old.faults.items (map entry_of faults.now) }
     ensures drive { table.new.drive ≡ table.old.drive }
 {
     for fault in faults {
@@ -98,7 +107,7 @@ fn lay<D: Drive>(table: &mut FaultTable<D>, faults: &[PlainFault])
     }
 }
 
-// A board that is made now, over copies of the bytes.
+/// A board that is made now, over copies of the bytes.
 pub fn board(
     heap: Global,
     winchester: ImageMeasures,
@@ -107,7 +116,9 @@ pub fn board(
     floppy: ImageMeasures,
     floppy_bytes: &[u8],
 ) -> Result<Controller<WinchesterUnit, FloppyUnit>, AllocError>
-    ensures { IfOk result (λ c. model_of ⟦<WinchesterUnit as Drive>⟧.meaning ⟦<FloppyUnit as Drive>⟧.meaning c ≡ board_model winchester winchester_bytes.now faults.now floppy floppy_bytes.now) }
+    ensures { IfOk result
+        (λ c. model_of ⟦<WinchesterUnit as Drive>⟧.meaning ⟦<FloppyUnit as Drive>⟧.meaning c
+        ≡ board_model winchester winchester_bytes.now faults.now floppy floppy_bytes.now) }
 {
     let mut table = FaultTable::over(bay::<Winchester>(heap, winchester, winchester_bytes)?);
     lay(&mut table, faults);
@@ -115,7 +126,7 @@ pub fn board(
     Ok(Controller::new(table, floppy))
 }
 
-// Puts others of the same number in the place of some items.
+/// Puts others of the same number in the place of some items.
 pub fn replace<T: Copy>(items: &mut [T], by: &[T])
     ensures { items.new ≡ fitting by.now items.old }
 {
@@ -134,14 +145,18 @@ fn hand_back<M: Make>(bay: Bay<Image<M>>, bytes: &mut [u8])
     }
 }
 
-// What both images hold.
+/// What both images hold.
 pub fn give_back(
     board: Controller<WinchesterUnit, FloppyUnit>,
     winchester: &mut [u8],
     floppy: &mut [u8],
 )
-    ensures winchester { winchester.new ≡ fitting (model_of ⟦<WinchesterUnit as Drive>⟧.meaning ⟦<FloppyUnit as Drive>⟧.meaning board).winchester.memory winchester.old }
-    ensures floppy { floppy.new ≡ fitting (model_of ⟦<WinchesterUnit as Drive>⟧.meaning ⟦<FloppyUnit as Drive>⟧.meaning board).floppy.memory floppy.old }
+    ensures winchester { winchester.new
+        ≡ fitting (model_of ⟦<WinchesterUnit as Drive>⟧.meaning ⟦<FloppyUnit as Drive>⟧.meaning
+        board).winchester.memory winchester.old }
+    ensures floppy { floppy.new
+        ≡ fitting (model_of ⟦<WinchesterUnit as Drive>⟧.meaning ⟦<FloppyUnit as Drive>⟧.meaning
+        board).floppy.memory floppy.old }
 {
     let (table, bay) = board.into_drives();
     hand_back(table.into_drive(), winchester);

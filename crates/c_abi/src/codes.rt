@@ -1,4 +1,4 @@
-// The check codes and the search for a burst.
+//! The check codes and the search for a burst.
 ghost use Rattle.std.specs.Prelude.{◌≡◌};
 ghost use Rattle.sector.specs.declared.size.SizeCode.TheVariants.{Bytes512};
 ghost use Rattle.check_code.specs.Code.{crc_code, ecc_code, check_of};
@@ -9,7 +9,7 @@ use burst::find_burst;
 use check_code::{CheckCode, Crc, Ecc, remainder};
 use sector::SizeCode;
 
-// The CRC of some bytes. C has no generics, so each code has a function under a name of its own.
+/// The CRC of some bytes.
 #[unsafe(no_mangle)]
 pub extern "C" fn disk_crc(bytes: &[u8]) -> u32
     ensures { result ≡ check_of crc_code bytes.now }
@@ -17,7 +17,7 @@ pub extern "C" fn disk_crc(bytes: &[u8]) -> u32
     remainder::<Crc>(Crc::START, bytes)
 }
 
-// The ECC of some bytes.
+/// The ECC of some bytes.
 #[unsafe(no_mangle)]
 pub extern "C" fn disk_ecc(bytes: &[u8]) -> u32
     ensures { result ≡ check_of ecc_code bytes.now }
@@ -25,12 +25,12 @@ pub extern "C" fn disk_ecc(bytes: &[u8]) -> u32
     remainder::<Ecc>(Ecc::START, bytes)
 }
 
-// The first bit of the burst that a difference tells of in a sector of 512 bytes, or FFFFh where none has it.
+/// The first bit of the burst that a difference tells of in a sector of 512 bytes, or FFFFh where
+/// none has it.
 #[unsafe(no_mangle)]
 pub extern "C" fn disk_burst(difference: u32) -> u16
     ensures { result ≡ first_bit (first_burst Bytes512 difference) }
 {
-    // C has no options: a number that is no bit of the sector stands for none.
     match find_burst(difference, SizeCode::Bytes512) {
         Some(burst) => burst.first,
         None => 0xffff,

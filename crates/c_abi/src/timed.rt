@@ -1,4 +1,4 @@
-// Rounds at a board, which are timed. Each answers 0 where memory is wanting.
+//! Rounds at a board, which are timed. Each answers 0 where memory is wanting.
 ghost use Rattle.std.specs.Prelude.{[]};
 ghost use Rattle.rounds.specs.Rounds.{reads, writes, both_refusals};
 ghost use Rattle.c_abi.specs.Timed.{Timed};
@@ -15,7 +15,7 @@ const NO_FLOPPY: ImageMeasures = ImageMeasures {
     capacity: 0,
 };
 
-// Reads of sectors under these faults, each with so many turns; the sum of all that is heard.
+/// Reads of sectors under these faults, each with so many turns; the sum of all that is heard.
 #[unsafe(no_mangle)]
 pub extern "C" fn disk_reads(
     heap: Global,
@@ -35,7 +35,7 @@ pub extern "C" fn disk_reads(
     sum
 }
 
-// Writes of sectors.
+/// Writes of sectors; the sum of all that is heard.
 #[unsafe(no_mangle)]
 pub extern "C" fn disk_writes(
     heap: Global,
@@ -53,7 +53,8 @@ pub extern "C" fn disk_writes(
     sum
 }
 
-// Accesses that are refused, five in a round, first while BUSY is on and then while bytes are offered.
+/// Accesses that are refused, five in a round, first while BUSY is on and then while bytes are
+/// offered; the sum of all that is heard.
 #[unsafe(no_mangle)]
 pub extern "C" fn disk_refusals(
     heap: Global,

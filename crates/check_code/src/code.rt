@@ -1,32 +1,34 @@
-// One interface for check codes, and what is computed through it.
+//! One interface for check codes, and what is computed through it.
 ghost use Rattle.std.specs.Prelude.{◌≡◌, ℕ, ◌-◌, ◌*◌, ◌^◌};
 ghost use Rattle.check_code.specs.Code.{Code, width as width_of, remainder_of, check_bytes_of, delivered_check, difference_of};
 ghost use Rattle.check_code.specs.Laws.{Sound};
 ghost use Rattle.check_code.specs.Aligned.{aligned, steps};
 
-// A check code, its register and polynomial given by `code`. Every law of it follows from `sound`, as `laws_stand` says.
+/// A check code, its register and polynomial given by `code`. Every law of it follows from `sound`,
+/// as `laws_stand` says.
 pub trait CheckCode {
     ghost code: { Code };
 
-    // How many bits the register has.
     ghost WIDTH: { ℕ };
 
+    /// How many bits the register has.
     const WIDTH: u32;
 
-    // What the register holds at the start.
     ghost START: { ℕ };
 
+    /// What the register holds at the start.
     const START: u32;
 
-    // What eight shifts make of a byte at the top of the register, which stands at the top of 32 bits.
+    /// What eight shifts make of a byte at the top of the register, which stands at the top of 32
+    /// bits.
     fn shifted(byte: u8) -> u32
         ensures { result ≡ steps (aligned code) 8 (byte * 2 ^ 24) };
 
-    // What 32 shifts make of a register at the top of 32 bits: what four bytes of zeros do to it.
+    /// What 32 shifts make of a register at the top of 32 bits: what four bytes of zeros do to it.
     fn shifted_by_four(register: u32) -> u32
         ensures { result ≡ steps (aligned code) 32 register };
 
-    // What 64 shifts make of it: what eight bytes of zeros do to it.
+    /// What 64 shifts make of it: what eight bytes of zeros do to it.
     fn shifted_by_eight(register: u32) -> u32
         ensures { result ≡ steps (aligned code) 64 register };
 
@@ -39,10 +41,12 @@ pub trait CheckCode {
     ghost start_is: { START ≡ code.start };
 }
 
-// The remainder after more bytes, from a remembered one on, at the top of 32 bits. Of eight bytes the first four enter beside
-// all bits of the register, and are shifted 64 times with it; the last four are shifted 32 times, and what both leave is xored.
+// The remainder after more bytes, from a remembered one on, at the top of 32 bits. Of eight bytes
+// the first four enter beside all bits of the register, and are shifted 64 times with it; the last
+// four are shifted 32 times, and what both leave is xored.
 fn register_after<C: CheckCode>(from: u32, bytes: &[u8]) -> u32
-    ensures { result ≡ remainder_of C.CheckCode.code from bytes.now * 2 ^ (32 - width_of C.CheckCode.code) }
+    ensures { result
+        ≡ remainder_of C.CheckCode.code from bytes.now * 2 ^ (32 - width_of C.CheckCode.code) }
 {
     let mut register = from << (32 - C::WIDTH);
     let (eights, rest) = bytes.as_chunks::<8>();
@@ -66,21 +70,23 @@ fn delivered<C: CheckCode>(check: [u8; 4]) -> u32
     u32::from_be_bytes(check) >> (32 - C::WIDTH)
 }
 
-// The remainder after more bytes, from a remembered one on.
+/// The remainder after more bytes, from a remembered one on. Of a number that is wider than the
+/// register only its low bits count.
 pub fn remainder<C: CheckCode>(from: u32, bytes: &[u8]) -> u32
     ensures { result ≡ remainder_of C.CheckCode.code from bytes.now }
 {
     register_after::<C>(from, bytes) >> (32 - C::WIDTH)
 }
 
-// The four check bytes of a sector's bytes.
+/// The four check bytes of a sector's bytes.
 pub fn check_bytes<C: CheckCode>(bytes: &[u8]) -> [u8; 4]
     ensures { result ≡ check_bytes_of C.CheckCode.code bytes.now }
 {
     register_after::<C>(C::START, bytes).to_be_bytes()
 }
 
-// The difference of a delivered sector: its recomputed check xor its delivered check.
+/// The difference of a delivered sector: its recomputed check xor its delivered check. A sector as
+/// it was written has 0.
 pub fn difference<C: CheckCode>(bytes: &[u8], check: [u8; 4]) -> u32
     ensures { result ≡ difference_of C.CheckCode.code bytes.now check }
 {

@@ -1,4 +1,4 @@
-// The two codes, each with its table.
+//! The two codes, each with its tables.
 ghost use Rattle.std.specs.Prelude.{refl};
 ghost use Rattle.check_code.specs.Code.{width as width_of, crc_code, ecc_code};
 ghost use Rattle.check_code.specs.Sound.{crc_sound, ecc_sound};
@@ -6,10 +6,10 @@ ghost use Rattle.check_code.specs.Sound.{crc_sound, ecc_sound};
 use super::code::CheckCode;
 use super::tables::{CRC_TABLES, ECC_TABLES};
 
-// X^16 + X^12 + X^5 + 1, from FFFFh.
+/// The CRC: X^16 + X^12 + X^5 + 1, from FFFFh.
 pub struct Crc;
 
-// X^32 + X^28 + X^26 + X^19 + X^17 + X^10 + X^6 + X^2 + 1, from FFFFFFFFh.
+/// The ECC: X^32 + X^28 + X^26 + X^19 + X^17 + X^10 + X^6 + X^2 + 1, from FFFFFFFFh.
 pub struct Ecc;
 
 impl CheckCode for Crc {

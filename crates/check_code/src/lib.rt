@@ -1,8 +1,9 @@
-// The two check codes, CRC and ECC, behind one trait: the check bytes of a sector and the difference of a delivered one.
-//
-// Promised here: both are the values that the shift register's definition gives, for every input; inverting bits changes
-// the difference by an amount that the bits and the length alone fix; a burst always shows; the check is the remainder
-// of a division of polynomials.
+//! The two check codes, CRC and ECC, behind one trait: the check bytes of a sector and the
+//! difference of a delivered one.
+//!
+//! Promised here: both are the values that the shift register's definition gives, for every input;
+//! inverting bits changes the difference by an amount that the bits and the length alone fix; a
+//! burst always shows; the check is the remainder of a division of polynomials.
 #![tactic(auto)]
 
 mod code;

@@ -1,4 +1,4 @@
-// Which of the two codes is used.
+//! Which of the two codes is used.
 ghost use Rattle.std.specs.Prelude.{◌≡◌};
 ghost use Rattle.check_code.specs.Code.{check_bytes_of, difference_of};
 ghost use Rattle.check_code.specs.Mode.{code_of};
@@ -6,16 +6,15 @@ ghost use Rattle.check_code.specs.Mode.{code_of};
 use super::code::{check_bytes, difference};
 use super::codes::{Crc, Ecc};
 
-// A check code, chosen as the program runs.
+/// A check code, chosen as the program runs.
 #[derive(Clone, Copy, PartialEq, Eq, Debug)]
 pub enum CheckMode {
     Crc,
     Ecc,
 }
 
-// A code is a type, so each call below names both: a function taken from a table, or a closure, would be no plainer.
 impl CheckMode {
-    // The four check bytes of a sector's bytes under this code.
+    /// The four check bytes of a sector's bytes under this code.
     pub fn bytes_for(self, bytes: &[u8]) -> [u8; 4]
         ensures { result ≡ check_bytes_of (code_of self) bytes.now }
     {
@@ -25,7 +24,7 @@ impl CheckMode {
         }
     }
 
-    // The difference of a delivered sector under this code.
+    /// The difference of a delivered sector under this code.
     pub fn difference(self, bytes: &[u8], check: [u8; 4]) -> u32
         ensures { result ≡ difference_of (code_of self) bytes.now check }
     {

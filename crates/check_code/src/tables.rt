@@ -1,7 +1,7 @@
-// The tables by which a register takes whole bytes at once. Entry b of table k is what 8 (k + 1) shifts make of the byte b at
-// the top of 32 bits.
+//! The tables by which a register takes whole bytes at once. Entry b of table k is what 8 (k + 1)
+//! shifts make of the byte b at the top of 32 bits.
 
-// The CRC's register stands at the top of 32 bits, so the low half of each entry is zero.
+/// The CRC's register stands at the top of 32 bits, so the low half of each entry is zero.
 pub static CRC_TABLES: [[u32; 256]; 8] = [
     [
         0x00000000, 0x10210000, 0x20420000, 0x30630000, 0x40840000, 0x50a50000, 0x60c60000,
@@ -317,6 +317,7 @@ pub static CRC_TABLES: [[u32; 256]; 8] = [
     ],
 ];
 
+/// The ECC's register has 32 bits.
 pub static ECC_TABLES: [[u32; 256]; 8] = [
     [
         0x00000000, 0x140a0445, 0x2814088a, 0x3c1e0ccf, 0x50281114, 0x44221551, 0x783c199e,

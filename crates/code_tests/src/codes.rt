@@ -1,4 +1,4 @@
-// The codes against published values, and bursts at the edges of sectors of every size.
+//! The codes against published values, and bursts at the edges of sectors of every size.
 use burst::{CorrectionError, correct};
 use check_code::{CheckCode, Crc, Ecc, check_bytes, difference, remainder};
 use sector::{Burst, invert_burst};
@@ -24,7 +24,8 @@ fn known_values(rt: HostRuntime) {
     check_is::<Ecc>(&rt, &[0; 512], 0x164b_4314);
 }
 
-// CRC fills two check bytes and leaves two zero, and ignores those two when it judges; ECC judges all four.
+// CRC fills two check bytes and leaves two zero, and ignores those two when it judges; ECC judges
+// all four.
 #[test]
 fn check_bytes_and_judging(rt: HostRuntime) {
     let crc = check_bytes::<Crc>(b"123456789");
@@ -50,7 +51,8 @@ fn mends(rt: &impl Abort, sector: &mut [u8], seam: u16, first: u16, pattern: u8)
     }
 }
 
-// Both ends, the middle, and the seam of bytes and check bytes; in the last bits, patterns as short as the room that is left.
+// Both ends, the middle, and the seam of bytes and check bytes; in the last bits, patterns as short
+// as the room that is left.
 fn mends_at_the_edges(rt: &impl Abort, sector: &mut [u8], seam: u16) {
     for first in [
         0,

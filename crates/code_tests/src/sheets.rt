@@ -1,4 +1,4 @@
-// Cue sheets at the edges: none, a last line without newline, lines longer than a sector.
+//! Cue sheets at the edges: none, a last line without newline, lines longer than a sector.
 use cue_sheet::{carry, count_lines, first_difference};
 use std::process::Abort;
 use std::test::Fail;

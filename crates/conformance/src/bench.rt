@@ -1,4 +1,4 @@
-// What the tests of the controller share: boards, and scripts whose steps are taken on them.
+//! What the tests of the controller share: boards, and scripts whose steps are taken on them.
 use check_code::{Crc, check_bytes};
 use controller::{Controller, Lines};
 use drive::{Bay, Drive, Geometry, Place};
@@ -12,50 +12,53 @@ use std::process::Abort;
 use std::test::Fail;
 use task_file::Fault;
 
-// A fault by its numbers: layer, error, cylinder, head, sector number and count of attempts.
+/// A fault by its numbers: layer, error, cylinder, head, sector number and count of attempts.
 pub type FaultNumbers = (u8, u8, u16, u8, u8, u8);
 
-// One step of a script: what the host does, and what it must see. Registers, refusals and commands stand by number, as the
-// host has them: some of the numbers name none, and a type of registers or of commands could not hold those.
+/// One step of a script: what the host does, and what it must see. Registers, refusals and commands
+/// stand by number, as the host has them.
 #[derive(Clone, Copy)]
 pub enum Step {
-    // The register of this number gives this byte.
+    /// The register of this number gives this byte.
     Read(u8, u8),
-    // The register of this number takes this byte.
+    /// The register of this number takes this byte.
     Write(u8, u8),
-    // A read of the register of this number is refused, by the refusal of this number.
+    /// A read of the register of this number is refused, by the refusal of this number.
     NoRead(u8, u8),
-    // A write of this byte to the register of this number is refused, by the refusal of this number.
+    /// A write of this byte to the register of this number is refused, by the refusal of this
+    /// number.
     NoWrite(u8, u8, u8),
-    // Registers 2 to 6 give these bytes.
+    /// Registers 2 to 6 give these bytes.
     Registers([u8; 5]),
-    // The data register gives this byte, so many times.
+    /// The data register gives this byte, so many times.
     Draw(u8, u16),
-    // The data register takes this byte, so many times.
+    /// The data register takes this byte, so many times.
     Give(u8, u16),
-    // This command is given, and BUSY goes off after so many turns.
+    /// This command is given, and BUSY goes off after so many turns.
     Run(u8, u16),
-    // One turn.
+    /// One turn.
     Turn,
-    // BUSY goes off after so many turns.
+    /// BUSY goes off after so many turns.
     Turns(u16),
-    // A master reset.
+    /// A master reset.
     Reset,
-    // Each access that is refused in a phase is refused, and leaves the lines as they were.
+    /// Each access that is refused in a phase is refused, and leaves the lines as they were.
     Refused(Refusals),
-    // DRQ and INTRQ are on or off.
+    /// DRQ and INTRQ are on or off.
     Lines(bool, bool),
-    // The status is this byte and DRQ its bit 3; INTRQ is on or off before it is read, and off after that.
+    /// The status is this byte and DRQ its bit 3; INTRQ is on or off before it is read, and off
+    /// after that.
     Status(u8, bool),
-    // The last fault, if there is one, has these numbers.
+    /// The last fault, if there is one, has these numbers.
     Fault(Option<FaultNumbers>),
-    // After a master reset, each command of a row of COMMANDS that is given with this SDH, count and cylinder leaves the status
-    // of that row: 80h where it runs, 58h where it takes bytes, and an odd one where it is aborted.
+    /// After a master reset, each command of a row of COMMANDS that is given with this SDH, count
+    /// and cylinder leaves the status of that row: 80h where it runs, 58h where it takes bytes, and
+    /// an odd one where it is aborted.
     Statuses(u8, u8, u16, [u8; 8]),
 }
 
-// By which refusal reads and writes of registers 0 to 8 are refused, or 0 where they are not. A write has FFh, which is no
-// command.
+/// By which refusal reads and writes of registers 0 to 8 are refused, or 0 where they are not. A
+/// write has FFh, which is no command.
 pub type Refusals = ([u8; 9], [u8; 9]);
 
 // Test, Restore, Seek, Read, Write, Format, and Read and Write with L = 1.
@@ -73,14 +76,14 @@ const COMMANDS: [&[u8]; 8] = [
 // What an aborted command leaves as the last fault.
 const ABORTED: FaultNumbers = (1, 4, 0, 0, 0, 0);
 
-// A script: its name, whether the drives are protected, and its steps.
+/// A script: its name, whether the drives are protected, and its steps.
 pub type Script<'a> = (&'a str, bool, &'a [Step]);
 
-// A controller over a Winchester image under faults and a floppy image.
+/// A controller over a Winchester image under faults and a floppy image.
 pub type Board = Controller<FaultTable<Bay<WinchesterImage>>, Bay<FloppyImage>>;
 
-// Sector memory for an image of these measures, whose first track has sectors 255, 0, 1, 2, 3, 4, 5 and 6 of 128 zeros; 2 is
-// marked bad.
+// Sector memory for an image of these measures, whose first track has sectors 255, 0, 1, 2, 3, 4, 5
+// and 6 of 128 zeros; 2 is marked bad.
 fn memory(rt: &impl Abort, heap: Global, geometry: Geometry) -> Result<Vec<u8>, Fail> {
     let mut memory = blank_memory(heap, geometry)?;
     assert!(rt; memory.len() >= 386);
@@ -93,8 +96,8 @@ fn memory(rt: &impl Abort, heap: Global, geometry: Geometry) -> Result<Vec<u8>, 
     Ok(memory)
 }
 
-// The faults of the Winchester: cylinder, head, sector number, kind, the first of five wrong bits, and attempts. Those at
-// cylinder 1 are for tracks under ECC.
+// The faults of the Winchester: cylinder, head, sector number, kind, the first of five wrong bits,
+// and attempts. Those at cylinder 1 are for tracks under ECC.
 const FLAWS: &[(u16, u8, u8, FaultKind, u16, u16)] = &[
     (0, 0, 3, FaultKind::NoId, 0, 8),
     (0, 0, 4, FaultKind::WrongBits, 40, 9),
@@ -129,7 +132,7 @@ const FLOPPY: Geometry = Geometry {
     capacity: 1024,
 };
 
-// A board that is made now: a Winchester under the faults of FLAWS, and a floppy.
+/// A board that is made now: a Winchester under the faults of FLAWS, and a floppy.
 pub fn board(rt: &impl Abort, heap: Global, protected: bool) -> Result<Board, Fail> {
     let large = memory(rt, heap, WINCHESTER)?;
     let small = memory(rt, heap, FLOPPY)?;
@@ -180,7 +183,8 @@ impl fmt::Display for Spot<'_> {
     }
 }
 
-// A board on which a script is played, the handle that ends a test that fails, and where the test stands.
+// A board on which a script is played, the handle that ends a test that fails, and where the test
+// stands.
 #[derive(Drop)]
 struct Bench<'a, R: Abort, W: Drive, F: Drive> {
     rt: &'a R,
@@ -278,7 +282,8 @@ impl<R: Abort, W: Drive, F: Drive> Bench<'_, R, W, F> {
         self.read_status(status, aborted);
     }
 
-    // Gives a command with this SDH, count and cylinder, which leaves this status; Restore alone changes registers.
+    // Gives a command with this SDH, count and cylinder, which leaves this status; Restore alone
+    // changes registers.
     fn leave_status(&mut self, command: u8, sdh: u8, count: u8, cylinder: u16, status: u8) {
         let [high, low] = cylinder.to_be_bytes();
         self.give_anew([count, 9, low, high, sdh], command);
@@ -298,8 +303,7 @@ impl<R: Abort, W: Drive, F: Drive> Bench<'_, R, W, F> {
         }
     }
 
-    // Takes one step. A closure in each row of a script would be no plainer than this match: the rows are constants, and each
-    // kind of step takes other arguments.
+    // Takes one step.
     fn take(&mut self, step: Step) {
         match step {
             Step::Read(number, byte) => self.call(Call::Read(number), Ok(Some(byte))),
@@ -327,7 +331,7 @@ impl<R: Abort, W: Drive, F: Drive> Bench<'_, R, W, F> {
     }
 }
 
-// Takes the steps of a script, one after another.
+/// Takes the steps of a script, one after another.
 pub fn play<'a, W: Drive, F: Drive>(
     rt: &'a impl Abort,
     script: &'a str,
@@ -342,7 +346,7 @@ pub fn play<'a, W: Drive, F: Drive>(
     }
 }
 
-// Plays each script on a board of its own, with the faults of FLAWS.
+/// Plays each script on a board of its own, with the faults of FLAWS.
 pub fn play_each(rt: &impl Abort, heap: Global, scripts: &[Script]) -> Result<(), Fail> {
     for (name, protected, steps) in scripts {
         play(rt, name, &mut board(rt, heap, *protected)?, steps);

@@ -1,10 +1,12 @@
-// Accesses to the registers: which are refused, by which refusal, and that a refused one changes nothing.
+//! Accesses to the registers: which are refused, by which refusal, and that a refused one changes
+//! nothing.
 use super::bench::{Refusals, Step, play, play_each};
 use controller::Controller;
 use drive::EmptyBay;
 use std::test::Fail;
 
-// By which refusal reads and writes of registers 0 to 8 are refused in each phase, or 0 where they are not.
+// By which refusal reads and writes of registers 0 to 8 are refused in each phase, or 0 where they
+// are not.
 const REST: Refusals = ([3, 0, 0, 0, 0, 0, 0, 0, 1], [3, 0, 0, 0, 0, 0, 0, 5, 1]);
 
 const BUSY: Refusals = ([2, 2, 2, 2, 2, 2, 2, 0, 1], [2, 2, 2, 2, 2, 2, 2, 2, 1]);
@@ -133,7 +135,8 @@ const PHASES: &[Step] = &[
 const ACCESSES: &[Step] = &[
     Step::Turns(1),
     Step::Status(0x50, true),
-    // at rest all registers but the data register are read and written; a byte written to the error register is dropped
+    // at rest all registers but the data register are read and written; a byte written to the error
+    // register is dropped
     Step::Write(2, 1),
     Step::Write(3, 255),
     Step::Write(4, 0),
@@ -185,7 +188,8 @@ const ACCESSES: &[Step] = &[
     Step::Write(2, 1),
     Step::Turn,
     Step::Status(0x50, true),
-    // while bytes are taken, the data register is written and not read, and registers 1 to 6 are read and not written
+    // while bytes are taken, the data register is written and not read, and registers 1 to 6 are
+    // read and not written
     Step::Write(7, 0x30),
     Step::Give(0x5a, 1),
     Step::NoRead(0, 3),
@@ -208,7 +212,8 @@ const ACCESSES: &[Step] = &[
     Step::Turns(1),
     Step::NoWrite(0, 0x5a, 3),
     Step::Status(0x50, true),
-    // while bytes are offered, the data register is read and not written, and registers 1 to 6 are read and not written
+    // while bytes are offered, the data register is read and not written, and registers 1 to 6 are
+    // read and not written
     Step::Run(0x20, 1),
     Step::Draw(0x5a, 1),
     Step::NoWrite(0, 9, 3),
@@ -264,8 +269,8 @@ fn is_command(byte: u8) -> bool {
     )
 }
 
-// Every byte written as a command to a controller without drives: while BUSY is on each is refused; after that Test runs, other
-// commands are aborted, and the rest refused.
+// Every byte written as a command to a controller without drives: while BUSY is on each is refused;
+// after that Test runs, other commands are aborted, and the rest refused.
 #[test]
 fn command_bytes(rt: HostRuntime) {
     let mut board = Controller::new(EmptyBay, EmptyBay);

@@ -1,4 +1,5 @@
-// Commands as they are given: those that run and those that are aborted, seeks and restores, protection, master resets.
+//! Commands as they are given: those that run and those that are aborted, seeks and restores,
+//! protection, master resets.
 use super::bench::{Step, board, play, play_each};
 use controller::Controller;
 use drive::EmptyBay;
@@ -61,7 +62,8 @@ const PLAIN: &[Step] = &[
     Step::Statuses(0x78, 9, 0, FLOPPY_NO_FORMAT),
 ];
 
-// On a board whose drives are protected: bit 5 shows the Winchester, and notes a Write or Format on the floppy.
+// On a board whose drives are protected: bit 5 shows the Winchester, and notes a Write or Format on
+// the floppy.
 const PROTECTED: &[Step] = &[
     Step::Statuses(0x60, 1, 0, [0x80, 0x71, 0x71, 0x71, 0x71, 0x71, 0x71, 0x71]),
     Step::Statuses(0x78, 1, 0, [0x80, 0x80, 0x80, 0x80, 0x71, 0x71, 0x51, 0x71]),
@@ -93,7 +95,8 @@ fn abortions(rt: HostRuntime) -> Result<(), Fail> {
     )
 }
 
-// A seek takes a turn for each step and one more. A restore does too, and clears the cylinder. Each drive has its own head.
+// A seek takes a turn for each step and one more. A restore does too, and clears the cylinder. Each
+// drive has its own head.
 const SEEKS: &[Step] = &[
     Step::Turns(1),
     Step::Status(0x50, true),
@@ -139,7 +142,8 @@ const SEEKS: &[Step] = &[
     Step::Run(0x10, 2),
 ];
 
-// What the status says of protected drives, and for how long it notes an aborted Write or Format. The floppy is read.
+// What the status says of protected drives, and for how long it notes an aborted Write or Format.
+// The floppy is read.
 const NOTES: &[Step] = &[
     Step::Turns(1),
     Step::Status(0x70, true),
@@ -360,8 +364,8 @@ fn seeks_notes_and_resets(rt: HostRuntime) -> Result<(), Fail> {
     )
 }
 
-// Restore and Seek with each of the low four bits that they may have, on either drive: all of them do the same. One of them
-// is the bit of a long Read, which a floppy would refuse.
+// Restore and Seek with each of the low four bits that they may have, on either drive: all of them
+// do the same. One of them is the bit of a long Read, which a floppy would refuse.
 #[test]
 fn low_bits(rt: HostRuntime) -> Result<(), Fail> {
     let mut board = board(&rt, rt.alloc(), false)?;

@@ -1,10 +1,11 @@
-// A history: a list of calls with every answer.
+//! A history: a list of calls with every answer.
 use controller::{Controller, Refusal};
 use drive::EmptyBay;
 use histories::{Answer, Call, finish, run};
 use std::test::Fail;
 
-// Calls and their answers, from the making of a controller without drives to a Test that is under way.
+// Calls and their answers, from the making of a controller without drives to a Test that is under
+// way.
 const HISTORY: &[(Call, Answer)] = &[
     (Call::Read(7), Ok(Some(0x80))),
     (Call::Read(3), Err(Refusal::Busy)),

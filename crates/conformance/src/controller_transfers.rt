@@ -1,11 +1,9 @@
-// Sectors that move between host and drive: plain, long and multiple ones, failures, and commands amid them.
-use super::bench::{Step, board, play, play_each};
-use drive::Bay;
-use image::{Image, Make};
-use std::process::Abort;
+//! Sectors that move between host and drive: plain, long and multiple ones, of each size.
+use super::bench::{Step, play_each};
 use std::test::Fail;
 
-// A write, and reads of what it wrote: INTRQ comes with DRQ, or with D = 1 once the last byte is drawn.
+// A write, and reads of what it wrote: INTRQ comes with DRQ, or with D = 1 once the last byte is
+// drawn.
 const SINGLE: &[Step] = &[
     Step::Turns(1),
     Step::Write(6, 0x60),
@@ -60,8 +58,8 @@ const SINGLE: &[Step] = &[
     Step::Status(0x50, true),
 ];
 
-// Long reads and writes under CRC: the check bytes move too, and are stored and handed over as they are. A plain read
-// judges the first two of them, and a plain write makes them.
+// Long reads and writes under CRC: the check bytes move too, and are stored and handed over as they
+// are. A plain read judges the first two of them, and a plain write makes them.
 const LONG: &[Step] = &[
     Step::Turns(1),
     Step::Write(6, 0x60),
@@ -153,8 +151,9 @@ const LONG: &[Step] = &[
     Step::Registers([0, 1, 0, 0, 0x60]),
 ];
 
-// Multiple writes and reads over sector 255: the count goes down and the number up with each sector. INTRQ comes with the
-// last sector alone, and a failure ends them without data at the sector that failed.
+// Multiple writes and reads over sector 255: the count goes down and the number up with each
+// sector. INTRQ comes with the last sector alone, and a failure ends them without data at the
+// sector that failed.
 const MULTIPLE: &[Step] = &[
     Step::Turns(1),
     Step::Write(6, 0x60),
@@ -229,7 +228,8 @@ const MULTIPLE: &[Step] = &[
     Step::Write(3, 1),
     Step::Run(0x20, 1),
     Step::Draw(0xa3, 128),
-    // sector 6, with wrong bits eight times, and then one that is not there: the attempts are those at the latter
+    // sector 6, with wrong bits eight times, and then one that is not there: the attempts are those
+    // at the latter
     Step::Write(2, 2),
     Step::Write(3, 6),
     Step::Run(0x24, 9),
@@ -324,416 +324,6 @@ const SIZES: &[Step] = &[
     Step::Status(0x51, true),
 ];
 
-// Commands amid a transfer: a sector that is not whole is not written, and bytes that are not drawn are gone.
-const AMID: &[Step] = &[
-    Step::Turns(1),
-    // a Read amid a Write, and a Seek amid that Read
-    Step::Write(6, 0x60),
-    Step::Write(3, 1),
-    Step::Write(7, 0x30),
-    Step::Give(0x55, 64),
-    Step::Write(7, 0x20),
-    Step::Status(0x80, false),
-    Step::Turns(1),
-    Step::Draw(0, 64),
-    Step::Write(7, 0x70),
-    Step::Status(0x80, false),
-    Step::Turns(1),
-    Step::Status(0x50, true),
-    Step::NoRead(0, 3),
-    // a Read amid a Read, and a Write amid a Write, begin from the first byte
-    Step::Write(7, 0x30),
-    Step::Give(0x11, 64),
-    Step::Give(0x22, 64),
-    Step::Turns(1),
-    Step::Run(0x20, 1),
-    Step::Draw(0x11, 64),
-    Step::Draw(0x22, 1),
-    Step::Run(0x20, 1),
-    Step::Draw(0x11, 64),
-    Step::Draw(0x22, 64),
-    Step::Write(7, 0x30),
-    Step::Give(0x33, 127),
-    Step::Write(7, 0x30),
-    Step::Give(0x44, 127),
-    Step::Lines(true, false),
-    Step::Give(0x44, 1),
-    Step::Turns(1),
-    Step::Run(0x20, 1),
-    Step::Draw(0x44, 128),
-    // a Format of 256 sectors, which is aborted, amid a Write
-    Step::Write(7, 0x30),
-    Step::Give(0x66, 5),
-    Step::Run(0x50, 0),
-    Step::Status(0x51, true),
-    Step::Fault(Some((1, 4, 0, 0, 0, 0))),
-    Step::NoWrite(0, 0x66, 3),
-    Step::Run(0x20, 1),
-    Step::Fault(None),
-    Step::Draw(0x44, 128),
-    // a Test amid the second sector of a multiple Write: the first is written
-    Step::Write(2, 2),
-    Step::Write(3, 255),
-    Step::Write(7, 0x34),
-    Step::Give(0x99, 128),
-    Step::Turns(1),
-    Step::Give(0x98, 10),
-    Step::Run(0x90, 1),
-    Step::Status(0x50, true),
-    Step::Registers([1, 0, 0, 0, 0x60]),
-    Step::Run(0x20, 1),
-    Step::Draw(0, 128),
-    Step::Write(3, 255),
-    Step::Run(0x20, 1),
-    Step::Draw(0x99, 128),
-    // a Write amid a Read, and a Restore amid a multiple Read whose interrupt has come
-    Step::Run(0x20, 1),
-    Step::Draw(0x99, 100),
-    Step::Lines(true, true),
-    Step::Write(7, 0x30),
-    Step::Lines(true, false),
-    Step::NoRead(0, 3),
-    Step::Give(0x9a, 128),
-    Step::Turns(1),
-    Step::Status(0x50, true),
-    Step::Write(2, 1),
-    Step::Run(0x24, 1),
-    Step::Registers([0, 0, 0, 0, 0x60]),
-    Step::Draw(0x9a, 127),
-    Step::Lines(true, true),
-    Step::Write(7, 0x10),
-    Step::Status(0x80, false),
-    Step::Turns(1),
-    Step::Status(0x50, true),
-    Step::NoRead(0, 3),
-    // a Read amid the bytes of a Format, and a Format amid that Read, whose own bytes are dropped then
-    Step::Write(2, 1),
-    Step::Write(3, 255),
-    Step::Write(7, 0x50),
-    Step::Give(0, 127),
-    Step::Run(0x20, 1),
-    Step::Draw(0x9a, 1),
-    Step::Write(7, 0x50),
-    Step::Lines(true, false),
-    Step::Give(0, 127),
-    Step::Run(0x20, 1),
-    Step::Draw(0x9a, 128),
-    // a Format of 256 sectors, which is aborted, amid a Read
-    Step::Write(2, 0),
-    Step::Run(0x20, 1),
-    Step::Draw(0x9a, 1),
-    Step::Run(0x50, 0),
-    Step::Status(0x51, true),
-    Step::Fault(Some((1, 4, 0, 0, 0, 0))),
-    Step::NoRead(0, 3),
-    Step::Write(7, 0x30),
-    Step::Give(0x99, 128),
-    Step::Turns(1),
-    // a Test amid a read that failed, and amid the bytes of a Format
-    Step::Write(3, 7),
-    Step::Run(0x20, 9),
-    Step::Draw(0, 1),
-    Step::Fault(Some((2, 0x10, 0, 0, 7, 9))),
-    Step::Write(7, 0x90),
-    Step::Fault(None),
-    Step::Turns(1),
-    Step::Status(0x50, true),
-    Step::Read(1, 0),
-    Step::Write(2, 1),
-    Step::Write(3, 255),
-    Step::Write(7, 0x50),
-    Step::Give(0, 2),
-    Step::Run(0x90, 1),
-    Step::Run(0x20, 1),
-    Step::Draw(0x99, 128),
-];
-
-// Failures: nine attempts are made, unless one finds the sector or its bad mark, and a read that failed offers as many zeros.
-const FAILURES: &[Step] = &[
-    Step::Turns(1),
-    // a sector that is not there
-    Step::Write(6, 0x60),
-    Step::Write(3, 7),
-    Step::Run(0x20, 9),
-    Step::Read(1, 0x10),
-    Step::Status(0x59, true),
-    Step::Fault(Some((2, 0x10, 0, 0, 7, 9))),
-    Step::Draw(0, 128),
-    Step::Status(0x51, false),
-    Step::Fault(Some((2, 0x10, 0, 0, 7, 9))),
-    Step::Write(7, 0x28),
-    Step::Fault(None),
-    Step::Turns(9),
-    Step::Lines(true, false),
-    Step::Draw(0, 128),
-    Step::Status(0x51, true),
-    Step::Run(0x22, 9),
-    Step::Draw(0, 132),
-    Step::Status(0x51, true),
-    Step::Run(0x2a, 9),
-    Step::Lines(true, false),
-    Step::Draw(0, 131),
-    Step::Lines(true, false),
-    Step::Draw(0, 1),
-    Step::Status(0x51, true),
-    Step::Write(7, 0x30),
-    Step::Fault(None),
-    Step::Give(9, 128),
-    Step::Turns(9),
-    Step::Status(0x51, true),
-    Step::Fault(Some((2, 0x10, 0, 0, 7, 9))),
-    // one that is marked bad
-    Step::Write(3, 2),
-    Step::Run(0x20, 1),
-    Step::Read(1, 0x80),
-    Step::Status(0x59, true),
-    Step::Fault(Some((2, 0x80, 0, 0, 2, 1))),
-    Step::Draw(0, 128),
-    Step::Write(7, 0x30),
-    Step::Fault(None),
-    Step::Give(9, 128),
-    Step::Turns(1),
-    Step::Status(0x51, true),
-    Step::Fault(Some((2, 0x80, 0, 0, 2, 1))),
-    // no ID eight times
-    Step::Write(3, 3),
-    Step::Run(0x20, 9),
-    Step::Status(0x58, true),
-    Step::Fault(None),
-    Step::Draw(0, 128),
-    // wrong bits nine times, and then none
-    Step::Write(3, 4),
-    Step::Run(0x20, 9),
-    Step::Read(1, 0x40),
-    Step::Status(0x59, true),
-    Step::Fault(Some((3, 0x40, 0, 0, 4, 9))),
-    Step::Draw(0, 128),
-    Step::Run(0x20, 1),
-    Step::Status(0x58, true),
-    Step::Fault(None),
-    Step::Draw(0, 128),
-    // no data mark nine times
-    Step::Write(3, 5),
-    Step::Run(0x20, 9),
-    Step::Read(1, 0x01),
-    Step::Status(0x59, true),
-    Step::Fault(Some((2, 0x01, 0, 0, 5, 9))),
-    Step::Draw(0, 128),
-    // wrong bits eight times
-    Step::Write(3, 6),
-    Step::Run(0x20, 9),
-    Step::Status(0x58, true),
-    Step::Fault(None),
-    Step::Draw(0, 128),
-];
-
-// A track formatted under ECC with sectors 1, 2, 3 and 4, of which 4 is marked bad. A difference that comes twice running is
-// corrected, if a burst has it.
-const ECC: &[Step] = &[
-    Step::Turns(1),
-    Step::Write(2, 4),
-    Step::Write(4, 1),
-    Step::Write(6, 0xe1),
-    Step::Write(7, 0x50),
-    Step::Status(0x58, false),
-    Step::Give(0, 1),
-    Step::Give(1, 1),
-    Step::Give(0x7f, 1),
-    Step::Give(2, 1),
-    Step::Give(0, 1),
-    Step::Give(3, 1),
-    Step::Give(0x80, 1),
-    Step::Give(4, 1),
-    Step::Give(0xff, 120),
-    Step::Status(0x80, false),
-    Step::Turns(2),
-    Step::Status(0x50, true),
-    Step::Registers([0, 0, 1, 0, 0xe1]),
-    // the same burst twice, and then none
-    Step::Write(3, 1),
-    Step::Run(0x20, 2),
-    Step::Status(0x5c, true),
-    Step::Fault(None),
-    Step::Draw(0, 128),
-    Step::Status(0x54, false),
-    Step::Run(0x20, 1),
-    Step::Status(0x58, true),
-    Step::Draw(0, 128),
-    // two bursts by turns, nine times
-    Step::Write(3, 2),
-    Step::Run(0x20, 9),
-    Step::Status(0x59, true),
-    Step::Fault(Some((3, 0x40, 1, 1, 2, 9))),
-    Step::Draw(0, 128),
-    // the same burst before and after an attempt without ID, and once more
-    Step::Write(3, 3),
-    Step::Run(0x20, 4),
-    Step::Status(0x5c, true),
-    Step::Fault(None),
-    Step::Draw(0, 128),
-    Step::Write(3, 4),
-    Step::Run(0x20, 1),
-    Step::Status(0x59, true),
-    Step::Fault(Some((2, 0x80, 1, 1, 4, 1))),
-    Step::Draw(0, 128),
-    // check bytes that no burst explains
-    Step::Write(3, 1),
-    Step::Write(7, 0x32),
-    Step::Give(0, 128),
-    Step::Give(0xde, 1),
-    Step::Give(0xad, 1),
-    Step::Give(0xbe, 1),
-    Step::Give(0xef, 1),
-    Step::Turns(1),
-    Step::Status(0x50, true),
-    Step::Run(0x20, 2),
-    Step::Status(0x59, true),
-    Step::Fault(Some((3, 0x40, 1, 1, 1, 2))),
-    Step::Draw(0, 128),
-    Step::Run(0x22, 1),
-    Step::Status(0x58, true),
-    Step::Draw(0, 128),
-    Step::Draw(0xde, 1),
-    Step::Draw(0xad, 1),
-    Step::Draw(0xbe, 1),
-    Step::Draw(0xef, 1),
-    Step::Fault(None),
-    // the check bytes of zeros, which are wrong under CRC
-    Step::Write(3, 2),
-    Step::Run(0x22, 1),
-    Step::Draw(0, 128),
-    Step::Draw(0xf7, 1),
-    Step::Draw(0xe3, 1),
-    Step::Draw(0xe7, 1),
-    Step::Draw(0xcb, 1),
-    Step::Write(6, 0x61),
-    Step::Run(0x20, 9),
-    Step::Fault(Some((3, 0x40, 1, 1, 2, 9))),
-    Step::Draw(0, 128),
-];
-
-// A multiple read over sector 255, which is corrected: Corrected stays on through the sectors after it, also where the last
-// of them fails, until the next command.
-const CORRECTED: &[Step] = &[
-    Step::Turns(1),
-    Step::Write(2, 3),
-    Step::Write(4, 1),
-    Step::Write(6, 0xe0),
-    Step::Write(7, 0x50),
-    Step::Give(0, 1),
-    Step::Give(255, 1),
-    Step::Give(0, 3),
-    Step::Give(1, 1),
-    Step::Give(0, 122),
-    Step::Turns(2),
-    Step::Status(0x50, true),
-    Step::Write(2, 4),
-    Step::Write(3, 255),
-    Step::Run(0x24, 2),
-    Step::Status(0x5c, false),
-    Step::Registers([3, 0, 1, 0, 0xe0]),
-    Step::Draw(0, 128),
-    Step::Turns(1),
-    Step::Status(0x5c, false),
-    Step::Draw(0, 128),
-    Step::Turns(1),
-    Step::Status(0x5c, false),
-    Step::Draw(0, 128),
-    Step::Turns(9),
-    Step::Read(1, 0x10),
-    Step::Status(0x55, true),
-    Step::Fault(Some((2, 0x10, 1, 0, 2, 9))),
-    Step::Registers([1, 2, 1, 0, 0xe0]),
-    Step::Write(2, 2),
-    Step::Write(3, 255),
-    Step::Run(0x24, 1),
-    Step::Status(0x58, false),
-    Step::Draw(0, 128),
-    Step::Turns(1),
-    Step::Draw(0, 128),
-    Step::Status(0x50, true),
-    Step::Fault(None),
-];
-
-// Writes sector 255 of both drives, and formats track 0 of cylinder 1 of the Winchester.
-const KEPT: &[Step] = &[
-    Step::Turns(1),
-    Step::Write(3, 255),
-    Step::Write(6, 0x60),
-    Step::Write(7, 0x30),
-    Step::Give(0xa5, 128),
-    Step::Turns(1),
-    Step::Write(6, 0x78),
-    Step::Write(7, 0x30),
-    Step::Give(0x3c, 128),
-    Step::Turns(1),
-    Step::Write(2, 1),
-    Step::Write(4, 1),
-    Step::Write(6, 0x60),
-    Step::Write(7, 0x50),
-    Step::Give(0x80, 1),
-    Step::Give(9, 127),
-    Step::Turns(2),
-    Step::Status(0x50, true),
-];
-
-// The memory of a drive that is fitted, or of one that was refused.
-fn memory_of<M: Make>(bay: Bay<Image<M>>) -> Vec<u8> {
-    match bay {
-        Bay::Fitted(image) => image.into_memory(),
-        Bay::Empty(memory) => memory,
-    }
-}
-
-// What the sector memories have once KEPT is played: a byte's place, and the byte. A track record begins with a count, a
-// size code and pairs of number and mark; check bytes follow from 130 on, and the sectors' bytes from 386 on.
-const WINCHESTER_MEMORY: &[(usize, u8)] = &[
-    (0, 8),
-    (1, 3),
-    (2, 255),
-    (3, 0),
-    (130, 0xb8),
-    (131, 0xe2),
-    (132, 0),
-    (133, 0),
-    (386, 0xa5),
-    (513, 0xa5),
-    (514, 0),
-    // the track of cylinder 1 and head 0, which is the third
-    (66_308, 1),
-    (66_309, 3),
-    (66_310, 9),
-    (66_311, 0x80),
-    (66_694, 0),
-];
-
-const FLOPPY_MEMORY: &[(usize, u8)] = &[
-    (130, 0x38),
-    (131, 0xf1),
-    (132, 0),
-    (386, 0x3c),
-    (513, 0x3c),
-    (514, 0),
-];
-
-// A memory has these bytes.
-fn has(rt: &impl Abort, memory: &[u8], bytes: &[(usize, u8)]) {
-    for (at, byte) in bytes {
-        assert_eq!(rt; memory.get(*at).copied(), Some(*byte), "byte {at}");
-    }
-}
-
-// The memory that comes back of drives that were written and formatted.
-#[test]
-fn memory_afterwards(rt: HostRuntime) -> Result<(), Fail> {
-    let mut board = board(&rt, rt.alloc(), false)?;
-    play(&rt, "kept", &mut board, KEPT);
-    let (winchester, floppy) = board.into_drives();
-    has(&rt, &memory_of(winchester.into_drive()), WINCHESTER_MEMORY);
-    has(&rt, &memory_of(floppy), FLOPPY_MEMORY);
-    Ok(())
-}
-
 // Plays each script of this module.
 #[test]
 fn transfers(rt: HostRuntime) -> Result<(), Fail> {
@@ -745,10 +335,6 @@ fn transfers(rt: HostRuntime) -> Result<(), Fail> {
             ("long", false, LONG),
             ("multiple", false, MULTIPLE),
             ("sizes", false, SIZES),
-            ("amid", false, AMID),
-            ("failures", false, FAILURES),
-            ("ecc", false, ECC),
-            ("corrected", false, CORRECTED),
         ],
     )
 }

@@ -1,4 +1,5 @@
-// The controller against its rules, as tables: scripts that are played on it. It has no code of its own.
+//! The controller against its rules, as tables: scripts that are played on it. It has no code of
+//! its own.
 #![tactic(auto)]
 
 #[cfg(test)]
@@ -6,8 +7,14 @@ mod bench;
 #[cfg(test)]
 mod controller_access;
 #[cfg(test)]
+mod controller_amid;
+#[cfg(test)]
 mod controller_commands;
 #[cfg(test)]
+mod controller_failures;
+#[cfg(test)]
 mod controller_histories;
+#[cfg(test)]
+mod controller_memory;
 #[cfg(test)]
 mod controller_transfers;

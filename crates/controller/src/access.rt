@@ -1,4 +1,4 @@
-// What an access answers.
+//! What an access answers.
 ghost use Rattle.std.specs.Prelude.{◌≡◌};
 ghost use Rattle.controller.specs.declared.access.Refusal.TheVariants.{NoRegister, NoCommand};
 ghost use Rattle.controller.specs.Access.{refusal_number};
@@ -7,25 +7,25 @@ use std::fmt;
 use task_file::{NoSuchCommand, NoSuchRegister};
 use thiserror::Error;
 
-// Why an access is refused, by its number.
+/// Why an access is refused, by its number.
 #[derive(Clone, Copy, PartialEq, Eq, Debug, Error)]
 pub enum Refusal {
     #[error("there is no register of this number")]
     NoRegister = 1,
-    // This is no status read.
+    /// BUSY is on, and the access is no read of the status.
     #[error("the controller is busy")]
     Busy = 2,
-    // DRQ is off, or bytes move the other way.
+    /// DRQ is off, or bytes move the other way.
     #[error("no data are asked for")]
     NoDataRequest = 3,
-    // A register is written while DRQ is on.
+    /// DRQ is on, and the access is a write to one of the registers 1 to 6.
     #[error("data are asked for")]
     DataRequest = 4,
     #[error("the byte is no command")]
     NoCommand = 5,
 }
 
-// The two lines: data request and interrupt request.
+/// The two lines: data request and interrupt request.
 #[derive(Clone, Copy, PartialEq, Eq, Debug)]
 pub struct Lines {
     pub drq: bool,

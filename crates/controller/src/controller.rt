@@ -1,4 +1,4 @@
-// The controller and its calls.
+//! The controller and its calls.
 ghost use Rattle.std.specs.Prelude.{◌≡◌, ◌||◌, true};
 ghost use Rattle.task_file.specs.Failures.{last_fault};
 ghost use Rattle.task_file.specs.State.{fresh, is_busy};
@@ -12,8 +12,7 @@ use super::turning::work;
 use drive::Drive;
 use task_file::{Command, DriveView, Failure, Fault, Job, Phase, Register, Selection, State};
 
-// A controller with Winchester 1 and floppy 1. It has no `impl Model`: a proof has to tell the values of a model apart, and
-// what a drive means holds functions. So clauses name the model by `model_of`.
+/// A controller with Winchester 1 and floppy 1. Clauses name its model by `model_of`.
 #[derive(Drop)]
 pub struct Controller<W: Drive, F: Drive> {
     state: State,
@@ -37,9 +36,10 @@ fn view<D: Drive>(drive: &D, floppy: bool, head: u8) -> DriveView
 }
 
 impl<W: Drive, F: Drive> Controller<W, F> {
-    // A controller over two drives; it begins with Test.
+    /// A controller over two drives; it begins with Test.
     pub fn new(winchester: W, floppy: F) -> Self
-        ensures model { model_of W.meaning F.meaning result ≡ made (W.meaning winchester) (F.meaning floppy) }
+        ensures model { model_of W.meaning F.meaning result
+            ≡ made (W.meaning winchester) (F.meaning floppy) }
         ensures winchester { result.winchester ≡ winchester }
         ensures floppy { result.floppy ≡ floppy }
     {
@@ -50,15 +50,14 @@ impl<W: Drive, F: Drive> Controller<W, F> {
         }
     }
 
-    // The two drives, as they are now.
+    /// The two drives, as they are now.
     pub fn into_drives(self) -> (W, F)
         ensures { (result.0 ≡ self.winchester) × (result.1 ≡ self.floppy) }
     {
         (self.winchester, self.floppy)
     }
 
-    // What is seen of the drive that SDH selects, if it selects one. The two drives are of two types, so what is done to either
-    // stands here and in `turn` for both.
+    // What is seen of the drive that SDH selects, if it selects one.
     fn selected_view(&self) -> Option<DriveView>
         ensures { result ≡ seen (model_of W.meaning F.meaning self.now) }
     {
@@ -68,7 +67,7 @@ impl<W: Drive, F: Drive> Controller<W, F> {
         }
     }
 
-    // The data request and the interrupt request.
+    /// DRQ, the data request, and INTRQ, the interrupt request.
     pub fn lines(&self) -> Lines
         ensures { result ≡ lines_of self.now.state }
     {
@@ -78,14 +77,14 @@ impl<W: Drive, F: Drive> Controller<W, F> {
         }
     }
 
-    // BUSY.
+    /// BUSY: a command is under way. Asking changes nothing, the interrupt neither.
     pub fn is_busy(&self) -> bool
         ensures { result ≡ is_busy self.now.state.phase }
     {
         self.state.phase.is_busy()
     }
 
-    // Why the last command failed, as numbers; absent whenever Error is off.
+    /// Why the last command failed, as numbers; absent whenever Error is off.
     pub fn last_fault(&self) -> Option<Fault>
         ensures { result ≡ last_fault self.now.state.failure }
     {
@@ -95,8 +94,11 @@ impl<W: Drive, F: Drive> Controller<W, F> {
     // The byte of a register where no rule stands against the read, and what it leaves.
     #[inline(never)]
     fn read_allowed(&mut self, register: Register) -> u8
-        ensures byte { result ≡ read_byte self.old.state (seen (model_of W.meaning F.meaning self.old)) register }
-        ensures after { model_of W.meaning F.meaning self.new ≡ with_state (model_of W.meaning F.meaning self.old) (read_effect self.old.state register) }
+        ensures byte { result
+            ≡ read_byte self.old.state (seen (model_of W.meaning F.meaning self.old)) register }
+        ensures after { model_of W.meaning F.meaning self.new
+            ≡ with_state (model_of W.meaning F.meaning self.old)
+            (read_effect self.old.state register) }
         ensures drives { KeepsDrives self.old self.new }
     {
         match register {
@@ -115,12 +117,15 @@ impl<W: Drive, F: Drive> Controller<W, F> {
         }
     }
 
-    // A register read. A byte within a sector comes first, since most reads are that.
+    /// Reads the register of this number. Refused, in this order: where no register has it, while
+    /// BUSY is on unless it is the status, and for the data register where no byte is offered.
     #[inline]
-    #[tactic(auto, unfolding(crate::specs::Access::read_answer_of, crate::specs::Access::state_after_read))]
+    #[tactic(auto, unfolding(crate::specs::Access::read_answer_of, // the answer
+    crate::specs::Access::state_after_read))]
     pub fn read_register(&mut self, number: u8) -> Result<u8, Refusal>
         ensures answer { result ≡ read_answered (model_of W.meaning F.meaning self.old) number }
-        ensures after { model_of W.meaning F.meaning self.new ≡ after_register_read (model_of W.meaning F.meaning self.old) number }
+        ensures after { model_of W.meaning F.meaning self.new
+            ≡ after_register_read (model_of W.meaning F.meaning self.old) number }
         ensures drives { KeepsDrives self.old self.new }
     {
         let register = Register::try_from(number)?;
@@ -143,19 +148,26 @@ impl<W: Drive, F: Drive> Controller<W, F> {
     // Begins a command on the drive that SDH selects now, if it selects one.
     #[inline(never)]
     fn begin(&mut self, command: Command)
-        ensures after { model_of W.meaning F.meaning self.new ≡ with_state (model_of W.meaning F.meaning self.old) (begun self.old.state command (seen (model_of W.meaning F.meaning self.old))) }
+        ensures after { model_of W.meaning F.meaning self.new
+            ≡ with_state (model_of W.meaning F.meaning self.old)
+            (begun self.old.state command (seen (model_of W.meaning F.meaning self.old))) }
         ensures drives { KeepsDrives self.old self.new }
     {
         let view = self.selected_view();
         self.state.begin(command, view);
     }
 
-    // A write to the data or the command register, where no rule but the last stands against it: a command is given by its byte.
+    // A write to the data or the command register, where no rule but the last stands against it: a
+    // command is given by its byte.
     #[inline(never)]
     fn write_allowed(&mut self, register: Register, byte: u8) -> Result<(), Refusal>
         requires { (is_data register || is_status register) ≡ true }
         ensures answer { result ≡ answered (command_refusal register (command_of byte)) tt }
-        ensures after { model_of W.meaning F.meaning self.new ≡ with_state (model_of W.meaning F.meaning self.old) (unless_refused (command_refusal register (command_of byte)) self.old.state (write_effect self.old.state (seen (model_of W.meaning F.meaning self.old)) register byte)) }
+        ensures after { model_of W.meaning F.meaning self.new
+            ≡ with_state (model_of W.meaning F.meaning self.old)
+            (unless_refused (command_refusal register (command_of byte)) self.old.state
+            (write_effect self.old.state (seen (model_of W.meaning F.meaning self.old))
+            register byte)) }
         ensures drives { KeepsDrives self.old self.new }
     {
         if let Register::Data = register {
@@ -166,12 +178,17 @@ impl<W: Drive, F: Drive> Controller<W, F> {
         Ok(())
     }
 
-    // A register write. A byte within a sector comes first, since most writes are that.
+    /// Writes a byte to the register of this number. Refused, in this order: where no register has
+    /// it, while BUSY is on, for the data register where no byte is taken, for registers 1 to 6
+    /// while DRQ is on, and for the command register where the byte is no command.
     #[inline]
-    #[tactic(auto, unfolding(crate::specs::Access::write_answer_of, crate::specs::Access::state_after_write))]
+    #[tactic(auto, unfolding(crate::specs::Access::write_answer_of, // the answer
+    crate::specs::Access::state_after_write))]
     pub fn write_register(&mut self, number: u8, byte: u8) -> Result<(), Refusal>
-        ensures answer { result ≡ write_answered (model_of W.meaning F.meaning self.old) number byte }
-        ensures after { model_of W.meaning F.meaning self.new ≡ after_register_write (model_of W.meaning F.meaning self.old) number byte }
+        ensures answer { result
+            ≡ write_answered (model_of W.meaning F.meaning self.old) number byte }
+        ensures after { model_of W.meaning F.meaning self.new
+            ≡ after_register_write (model_of W.meaning F.meaning self.old) number byte }
         ensures drives { KeepsDrives self.old self.new }
     {
         let register = Register::try_from(number)?;
@@ -196,9 +213,11 @@ impl<W: Drive, F: Drive> Controller<W, F> {
         }
     }
 
-    // One turn: one step or one attempt where a job is under way, and else nothing.
+    /// One turn: one step, one attempt or one format of the command under way, or its end. At rest
+    /// and while bytes move it does nothing.
     pub fn turn(&mut self)
-        ensures { model_of W.meaning F.meaning self.new ≡ after_turn (model_of W.meaning F.meaning self.old) }
+        ensures { model_of W.meaning F.meaning self.new
+            ≡ after_turn (model_of W.meaning F.meaning self.old) }
     {
         match (self.state.phase, self.state.registers.selection()) {
             (Phase::Busy(job), Some(Selection::Winchester(head))) => {
@@ -213,9 +232,10 @@ impl<W: Drive, F: Drive> Controller<W, F> {
         }
     }
 
-    // A master reset: registers, lines and flags are cleared, and Test begins.
+    /// A master reset: registers, lines and flags are cleared, and Test begins.
     pub fn master_reset(&mut self)
-        ensures after { model_of W.meaning F.meaning self.new ≡ after_reset (model_of W.meaning F.meaning self.old) }
+        ensures after { model_of W.meaning F.meaning self.new
+            ≡ after_reset (model_of W.meaning F.meaning self.old) }
         ensures drives { KeepsDrives self.old self.new }
     {
         self.state.reset();

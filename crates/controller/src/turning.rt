@@ -1,19 +1,17 @@
-// One turn of a busy controller on the selected drive.
+//! One turn of a busy controller on the selected drive.
 ghost use Rattle.std.specs.Prelude.{◌≡◌};
 ghost use Rattle.controller.specs.Turns.{turned, restore_turn, read_act, write_act, format_act, worked};
 
 use drive::{Drive, MOST_SECTORS, step_toward};
 use task_file::{Failure, Job, Phase, ReadJob, State, WriteJob, format_ids, zero_check};
 
-// State and drive are two parts of the controller that a turn takes apart, since the drive is one of two makes; so they come
-// beside each other here.
-
-// The most steps that Restore makes: the board's number, whatever drives have as their most.
+// The most steps that Restore makes.
 const RESTORE_STEPS: u16 = 1024;
 
 // One step out, unless the head stands at cylinder 0 or has made too many.
 fn restore<D: Drive>(state: &mut State, drive: &mut D, steps: u16)
-    ensures { turned state.new (D.meaning drive.new) ≡ restore_turn state.old steps (D.meaning drive.old) }
+    ensures { turned state.new (D.meaning drive.new)
+        ≡ restore_turn state.old steps (D.meaning drive.old) }
 {
     if drive.cylinder() == 0 {
         state.end();
@@ -27,7 +25,8 @@ fn restore<D: Drive>(state: &mut State, drive: &mut D, steps: u16)
 
 // A read attempt.
 fn read_sector<D: Drive>(state: &mut State, drive: &mut D, job: ReadJob, head: u8)
-    ensures { turned state.new (D.meaning drive.new) ≡ read_act state.old job head (D.meaning drive.old) }
+    ensures { turned state.new (D.meaning drive.new)
+        ≡ read_act state.old job head (D.meaning drive.old) }
 {
     let answer = drive.read(state.registers.address(head), &mut state.buffer);
     state.judge_read(answer, job, head);
@@ -35,7 +34,8 @@ fn read_sector<D: Drive>(state: &mut State, drive: &mut D, job: ReadJob, head: u
 
 // A write attempt.
 fn write_sector<D: Drive>(state: &mut State, drive: &mut D, job: WriteJob, head: u8)
-    ensures { turned state.new (D.meaning drive.new) ≡ write_act state.old job head (D.meaning drive.old) }
+    ensures { turned state.new (D.meaning drive.new)
+        ≡ write_act state.old job head (D.meaning drive.old) }
 {
     let answer = drive.write(state.registers.address(head), &state.buffer);
     state.judge_write(answer, job, head);
@@ -43,7 +43,8 @@ fn write_sector<D: Drive>(state: &mut State, drive: &mut D, job: WriteJob, head:
 
 // A format.
 fn format_track<D: Drive>(state: &mut State, drive: &mut D, head: u8)
-    ensures { turned state.new (D.meaning drive.new) ≡ format_act state.old head (D.meaning drive.old) }
+    ensures { turned state.new (D.meaning drive.new)
+        ≡ format_act state.old head (D.meaning drive.old) }
 {
     let count = (state.registers.sectors() as usize).min(MOST_SECTORS);
     let size = state.registers.size();
@@ -53,10 +54,11 @@ fn format_track<D: Drive>(state: &mut State, drive: &mut D, head: u8)
     state.judge_format(answer);
 }
 
-// One turn of a job under a head of the selected drive: one step, or one attempt, or one format.
+/// One turn of a job under a head of the selected drive: one step, or one attempt, or one format.
 #[tactic(auto, unfolding(crate::specs::Turns::worked))]
 pub fn work<D: Drive>(state: &mut State, drive: &mut D, job: Job, head: u8)
-    ensures { turned state.new (D.meaning drive.new) ≡ worked job state.old head (D.meaning drive.old) }
+    ensures { turned state.new (D.meaning drive.new)
+        ≡ worked job state.old head (D.meaning drive.old) }
 {
     let cylinder = state.registers.cylinder();
     match job {

@@ -1,18 +1,18 @@
-// What a sheet's comparison with its script tells.
+//! What a sheet's comparison with its script tells.
 ghost use Rattle.std.specs.Prelude.{◌≡◌};
 ghost use Rattle.cue_sheet.specs.Lines.{differing_line};
 
 use super::lines::first_difference;
 use std::fmt;
 
-// The first line, counted from 1, in which a script differs from its sheet, if one does.
+/// The first line, counted from 1, in which a script differs from its sheet, if one does.
 #[derive(Clone, Copy, PartialEq, Eq, Debug)]
 pub struct Comparison {
     pub first: Option<usize>,
 }
 
 impl Comparison {
-    // Compares a sheet with its script.
+    /// Compares a sheet with its script.
     pub fn of(sheet: &[u8], script: &[u8]) -> Comparison
         ensures { result.first ≡ differing_line sheet.now script.now }
     {

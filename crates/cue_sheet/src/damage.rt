@@ -1,10 +1,10 @@
-// The fixed rule by which sectors are damaged.
+//! The fixed rule by which sectors are damaged.
 ghost use Rattle.std.specs.Prelude.{◌≡◌};
 ghost use Rattle.cue_sheet.specs.Damage.{burst_by_rule, damage};
 
 use sector::Burst;
 
-// The burst that the rule has for a sector.
+/// The burst that the rule has for a sector.
 pub fn burst_of(sector: usize) -> Burst
     ensures { result ≡ burst_by_rule sector }
 {
@@ -14,7 +14,7 @@ pub fn burst_of(sector: usize) -> Burst
     }
 }
 
-// The burst that a sector suffers, if it suffers one.
+/// The burst that a sector suffers, if it suffers one.
 pub fn damage_of(sector: usize) -> Option<Burst>
     ensures { result ≡ damage sector }
 {

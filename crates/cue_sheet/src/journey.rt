@@ -1,4 +1,4 @@
-// A sheet's way through the sectors.
+//! A sheet's way through the sectors.
 ghost use Rattle.std.specs.Prelude.{◌≡◌, ◌≤◌, ◌++◌, IfOk, OnOk};
 ghost use Rattle.cue_sheet.specs.Damage.{damage};
 ghost use Rattle.cue_sheet.specs.Journey.{Arrived, noted_of, sector_with};
@@ -10,33 +10,35 @@ use sector::{Burst, invert_burst};
 use std::alloc::{AllocError, Global};
 use thiserror::Error;
 
-// The bytes of a sector, by its size. Records on drives have their own constant: neither crate stands on the other.
+/// How many bytes a sector has.
 pub const SECTOR: usize = 512;
 
-// A burst that was found in a sector.
+/// A burst that was found in a sector.
 #[derive(Clone, Copy)]
 pub struct Found {
+    /// Which sector of the sheet, from 0.
     pub sector: usize,
     pub burst: Burst,
 }
 
-// What came of a sheet on its way.
+/// What came of a sheet on its way.
 #[derive(Drop)]
 pub struct Journey {
     pub script: Vec<u8>,
+    /// How many sectors the sheet took.
     pub sectors: usize,
     pub bursts: Vec<Found>,
 }
 
-// Why a journey could not be made. The sheet stays as it was.
+/// Why a journey could not be made. The sheet stays as it was.
 #[derive(Debug, Drop, Error)]
 pub enum JourneyError {
-    // There was no memory for the script or for the list of bursts.
+    /// There was no memory for the script or for the list of bursts.
     #[error("out of memory for the script")]
     OutOfMemory(#[from(alloc)] AllocError),
 }
 
-// Gives a sector its check bytes, damages both by the rule, and mends it: it comes back as it was.
+/// Gives a sector its check bytes, damages both by the rule, and mends it: it comes back as it was.
 pub fn carry_sector(
     bytes: &mut [u8; SECTOR],
     number: usize,
@@ -52,7 +54,8 @@ pub fn carry_sector(
     correct(bytes, check)
 }
 
-// One sector's bytes: a part of the sheet, of which no more than a sector counts, and zeros after it.
+/// One sector's bytes: a part of the sheet, of which no more than a sector counts, and zeros after
+/// it.
 pub fn loaded(part: &[u8]) -> [u8; SECTOR]
     ensures { result ≡ sector_with part.now }
 {
@@ -76,7 +79,7 @@ fn note(
     Ok(())
 }
 
-// Carries a sheet through its sectors, damaged and mended, and puts the script together.
+/// Carries a sheet through its sectors, damaged and mended, and puts the script together.
 pub fn carry(heap: Global, sheet: &[u8]) -> Result<Journey, JourneyError>
     ensures { IfOk result (λ j. Arrived sheet.now j) }
 {

@@ -1,8 +1,8 @@
-// A cue sheet's way through ECC sectors: cut into sectors, damaged by a fixed rule, mended, put together again as the
-// firing script, and compared with the sheet line by line.
-//
-// Promised here: the script is the sheet, byte for byte; the bursts found are the bursts that were laid; and the
-// comparison tells the first line that differs, if one does.
+//! A cue sheet's way through ECC sectors: cut into sectors, damaged by a fixed rule, mended, put
+//! together again as the firing script, and compared with the sheet line by line.
+//!
+//! Promised here: the script is the sheet, byte for byte; the bursts found are the bursts that were
+//! laid; and the comparison tells the first line that differs, if one does.
 #![tactic(auto)]
 
 mod comparison;

@@ -1,15 +1,15 @@
-// Lines of text.
+//! Lines of text.
 ghost use Rattle.std.specs.Prelude.{◌≡◌, None};
 ghost use Rattle.cue_sheet.specs.Lines.{line_count, differing_line};
 
-// How many lines a text has; the last may lack its newline.
+/// How many lines a text has; the last may lack its newline.
 pub fn count_lines(text: &[u8]) -> usize
     ensures { result ≡ line_count text.now }
 {
     text.split_inclusive(|byte| *byte == b'\n').count()
 }
 
-// The first line, counted from 1, in which two texts differ; none where they are the same.
+/// The first line, counted from 1, in which two texts differ; none where they are the same.
 pub fn first_difference(sheet: &[u8], script: &[u8]) -> Option<usize>
     ensures line { result ≡ differing_line sheet.now script.now }
     ensures differ { result ≡ None → sheet.now ≡ script.now }

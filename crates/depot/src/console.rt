@@ -1,4 +1,4 @@
-// The console: the host of a controller, which it reaches by the eight registers alone.
+//! The console: the host of a controller, which it reaches by the eight registers alone.
 use super::outcome::{Failure, Outcome, Success};
 use super::registers::{ECC_512, Order, Status, read, write};
 use anyhow::anyhow;
@@ -10,8 +10,8 @@ use round_trip::run;
 use std::alloc::Global;
 use task_file::Register;
 
-// A console with its controller. It knows where records lie on the Winchester, and remembers the cylinder that it sent the
-// head to.
+/// A console with its controller. It knows where records lie on the Winchester, and remembers the
+/// cylinder that it sent the head to.
 #[derive(Drop)]
 pub struct Console<W: Drive, F: Drive> {
     controller: Controller<W, F>,
@@ -20,7 +20,7 @@ pub struct Console<W: Drive, F: Drive> {
     cylinder: u16,
 }
 
-// What came of reading a record, and the bytes that were drawn.
+/// What came of reading a record, and the bytes that were drawn.
 #[derive(Drop)]
 pub struct Record {
     pub outcome: Outcome,
@@ -37,7 +37,7 @@ fn format_bytes(sectors: u8) -> [u8; RECORD] {
 }
 
 impl<W: Drive, F: Drive> Console<W, F> {
-    // A console before a controller that was just made.
+    /// A console before a controller that was just made.
     pub fn new(controller: Controller<W, F>, heap: Global, grid: Grid) -> Console<W, F> {
         Console {
             controller,
@@ -47,12 +47,13 @@ impl<W: Drive, F: Drive> Console<W, F> {
         }
     }
 
-    // Where records lie on the Winchester.
+    /// Where records lie on the Winchester.
     pub fn grid(&self) -> Grid {
         self.grid
     }
 
-    // Makes calls, and hands back their answers; one that is refused is an error, told by its number and in words.
+    // Makes calls, and hands back their answers; one that is refused is an error, told by its
+    // number and in words.
     fn run(&mut self, calls: &[Call]) -> anyhow::Result<Vec<Answer>> {
         let answers = run(&mut self.controller, self.heap, calls)?;
         for answer in answers.iter() {
@@ -122,8 +123,8 @@ impl<W: Drive, F: Drive> Console<W, F> {
         Ok(Ok(Success::Clean))
     }
 
-    // Turns the controller until BUSY is off, and reads the status, which takes the interrupt back. The head stands at this
-    // cylinder then.
+    // Turns the controller until BUSY is off, and reads the status, which takes the interrupt back.
+    // The head stands at this cylinder then.
     fn wait(&mut self, cylinder: u16) -> anyhow::Result<Outcome> {
         let turns = finish(&mut self.controller);
         let steps = self.cylinder.abs_diff(cylinder);
@@ -137,19 +138,18 @@ impl<W: Drive, F: Drive> Console<W, F> {
         })
     }
 
-    // Waits for the test that every controller begins with.
+    /// Waits for the test that every controller begins with.
     pub fn test(&mut self) -> anyhow::Result<Outcome> {
         self.wait(0)
     }
 
-    // Moves the head to cylinder 0. It needs no other register, so that it can be given while bytes are still offered: it
-    // drops what was left of them, and only then can other registers be written again.
+    /// Moves the head to cylinder 0. It may be given while bytes are still offered, and drops them.
     pub fn restore(&mut self) -> anyhow::Result<Outcome> {
         self.run(&[write(Register::Status, u8::from(Order::Restore))])?;
         self.wait(0)
     }
 
-    // Formats the track of a place with so many good sectors, numbered from 0.
+    /// Formats the track of a place with so many good sectors, numbered from 0.
     pub fn format_track(&mut self, place: Place, sectors: u8) -> anyhow::Result<Outcome> {
         self.run(&[write(Register::Count, sectors)])?;
         self.command(place, Order::Format)?;
@@ -157,14 +157,14 @@ impl<W: Drive, F: Drive> Console<W, F> {
         self.wait(place.cylinder)
     }
 
-    // Writes a record.
+    /// Writes a record.
     pub fn write_record(&mut self, place: Place, bytes: &[u8; RECORD]) -> anyhow::Result<Outcome> {
         self.command(place, Order::Write)?;
         self.give(bytes)?;
         self.wait(place.cylinder)
     }
 
-    // Reads a record. Where its command was aborted no byte is offered, and none is drawn.
+    /// Reads a record. Where its command was aborted no byte is offered, and none is drawn.
     pub fn read_record(&mut self, place: Place) -> anyhow::Result<Record> {
         self.command(place, Order::Read)?;
         let outcome = self.wait(place.cylinder)?;
@@ -173,7 +173,8 @@ impl<W: Drive, F: Drive> Console<W, F> {
         Ok(Record { outcome, bytes })
     }
 
-    // Begins to read a record, draws so many of its bytes, and leaves the others and the interrupt; tells the lines.
+    /// Begins to read a record, draws so many of its bytes, and leaves the others and the
+    /// interrupt; tells the lines.
     pub fn leave_read(&mut self, place: Place, count: usize) -> anyhow::Result<Lines> {
         self.command(place, Order::Read)?;
         finish(&mut self.controller);

@@ -1,4 +1,4 @@
-// Reading: what an earlier show leaves unfinished, and the script on site.
+//! Reading: what an earlier show leaves unfinished, and the script on site.
 use super::console::Console;
 use super::outcome::{Outcome, Success, Tally};
 use super::registers::Order;
@@ -6,7 +6,7 @@ use drive::{Drive, Place};
 use records::RECORD;
 use std::io;
 
-// An earlier show: the first record is half read, and everything is left as it stands then.
+/// An earlier show: the first record is half read, and everything is left as it stands then.
 pub fn leave_half<W: Drive, F: Drive>(
     rt: &HostRuntime,
     console: &mut Console<W, F>,
@@ -39,7 +39,8 @@ fn print_reading(rt: &HostRuntime, index: usize, outcome: Outcome) -> io::Result
     }
 }
 
-// The bytes of the records at these places. One that cannot be read is told of, and counts as zeros.
+/// The bytes of the records at these places. One that cannot be read is told of, and counts as
+/// zeros.
 pub fn fetch<W: Drive, F: Drive>(
     rt: &HostRuntime,
     console: &mut Console<W, F>,
@@ -65,7 +66,8 @@ pub fn fetch<W: Drive, F: Drive>(
         failed,
     } = tally;
     println!(rt;
-        "site: {order}, records: {records}, retries: {retries}, corrected: {corrected}, not read: {failed}, turns: {turns}"
+        "site: {order}, records: {records}, retries: {retries}, corrected: {corrected}, \
+         not read: {failed}, turns: {turns}"
     )?;
     Ok(script)
 }

@@ -1,4 +1,4 @@
-// At the depot: the drive is restored and formatted, and the sheet is written to it.
+//! At the depot: the drive is restored and formatted, and the sheet is written to it.
 use super::console::Console;
 use super::outcome::{Outcome, Tally};
 use super::registers::Order;
@@ -7,7 +7,7 @@ use drive::{Drive, Place};
 use records::RECORD;
 use std::io;
 
-// Sends the head to cylinder 0, at the depot or on site.
+/// Sends the head to cylinder 0, at the depot or on site.
 pub fn restore<W: Drive, F: Drive>(
     rt: &HostRuntime,
     console: &mut Console<W, F>,
@@ -61,7 +61,7 @@ fn format_tracks<W: Drive, F: Drive>(
     Ok(())
 }
 
-// Waits for the controller's test, restores the head and formats the drive.
+/// Waits for the controller's test, restores the head and formats the drive.
 pub fn prepare<W: Drive, F: Drive>(
     rt: &HostRuntime,
     console: &mut Console<W, F>,
@@ -82,7 +82,7 @@ fn print_writing(rt: &HostRuntime, index: usize, outcome: Outcome) -> io::Result
     println!(rt; "depot: record {index:>3} written at attempt {attempts}")
 }
 
-// Writes a sheet, record by record.
+/// Writes a sheet, record by record.
 pub fn store<W: Drive, F: Drive>(
     rt: &HostRuntime,
     console: &mut Console<W, F>,

@@ -1,11 +1,12 @@
-// The depot's program: reads a cue sheet from standard input and writes it to a Winchester image as a console does, through
-// the eight registers of one controller. An earlier show leaves a read half done. Then the firing script is read back
-// through the same registers, under faults laid over the drive, and compared with the sheet line by line.
-//
-// Three arguments, if given, are the image's cylinders, heads and track capacity.
-//
-// Promised here: it is safe and ends. Each library call that it makes has a contract of its own; what it reads and prints is
-// tested on the sheet in `stdin`, against `stdout`.
+//! The depot's program: reads a cue sheet from standard input and writes it to a Winchester image
+//! as a console does, through the eight registers of one controller. An earlier show leaves a read
+//! half done. Then the firing script is read back through the same registers, under faults laid
+//! over the drive, and compared with the sheet line by line.
+//!
+//! Three arguments, if given, are the image's cylinders, heads and track capacity.
+//!
+//! Promised here: it is safe and ends. Each library call that it makes has a contract of its own;
+//! what it reads and prints is tested on the sheet in `stdin`, against `stdout`.
 #![tactic(auto)]
 
 mod console;

@@ -1,12 +1,12 @@
-// Why a drive refuses a call, and what a format is given.
+//! Why a drive refuses a call, and what a format is given.
 use thiserror::Error;
 
-// A drive that is not ready answers nothing else.
+/// What a drive that is not ready answers to a step.
 #[derive(Clone, Copy, PartialEq, Eq, Debug, Error)]
 #[error("the drive is not ready")]
 pub struct NotReady;
 
-// Why a read attempt hands nothing over.
+/// Why a read attempt hands nothing over.
 #[derive(Clone, Copy, PartialEq, Eq, Debug, Error)]
 pub enum ReadError {
     #[error("the drive is not ready")]
@@ -19,7 +19,7 @@ pub enum ReadError {
     NoDataMark,
 }
 
-// Why a write attempt writes nothing.
+/// Why a write attempt writes nothing.
 #[derive(Clone, Copy, PartialEq, Eq, Debug, Error)]
 pub enum WriteError {
     #[error("the drive is not ready")]
@@ -32,7 +32,7 @@ pub enum WriteError {
     BadBlock,
 }
 
-// Why a format is refused.
+/// Why a format is refused.
 #[derive(Clone, Copy, PartialEq, Eq, Debug, Error)]
 pub enum FormatError {
     #[error("the drive is not ready")]
@@ -47,7 +47,7 @@ pub enum FormatError {
     TooLong,
 }
 
-// The number and the bad mark that a format gives a sector.
+/// The number and the bad mark that a format gives a sector.
 #[derive(Clone, Copy, PartialEq, Eq, Debug)]
 pub struct SectorId {
     pub number: u8,

@@ -1,4 +1,4 @@
-// Bays for drives of one make.
+//! Bays for drives of one make.
 ghost use Rattle.drive.specs.Empty.{empty_model};
 ghost use Rattle.drive.specs.declared.bay.Bay.TheVariants.{Fitted, Empty};
 ghost use Rattle.std.proofs.Common.{rules};
@@ -9,17 +9,14 @@ use super::drive::Drive;
 use super::place::SectorAddress;
 use sector::SizeCode;
 
-// A bay with a drive, or without one: then it keeps the memory that came for it, which can be had back. It is no `Result`,
-// since a bay is a drive either way, and an empty one is no error.
+/// A bay with a drive, or an empty one, which keeps the memory that came for its drive.
 #[derive(Drop)]
 pub enum Bay<D: Drive> {
     Fitted(D),
     Empty(Vec<u8>),
 }
 
-// Each call takes and answers something else, so a match in each is plainer than one with a closure for either arm. An empty
-// bay answers what EmptyBay does: one value a call, which a call on an EmptyBay would say no shorter.
-#[tactic(auto, unfolding(crate::specs::Calls::step_answer, crate::specs::Calls::stepped_in, crate::specs::Calls::stepped_out, crate::specs::Calls::read_answer, crate::specs::Calls::handed_over, crate::specs::Calls::after_read, crate::specs::Calls::write_answer, crate::specs::Calls::after_write, crate::specs::Calls::format_answer, crate::specs::Calls::after_format))]
+// An empty bay answers as `EmptyBay` does.
 impl<D: Drive> Drive for Bay<D> {
     const MOST_CYLINDERS: u16 = D::MOST_CYLINDERS;
 
@@ -29,7 +26,10 @@ impl<D: Drive> Drive for Bay<D> {
 
     ghost MOST_HEADS = { D.MOST_HEADS };
 
-    ghost meaning = { λ b. elim b [ Fitted d ↦ D.meaning d | Empty memory ↦ empty_model memory.items ] };
+    ghost meaning = { λ b. elim b [
+      | Fitted d ↦ D.meaning d
+      | Empty memory ↦ empty_model memory.items
+    ] };
 
     ghost limits = { Prim.search rules };
 
@@ -77,6 +77,7 @@ impl<D: Drive> Drive for Bay<D> {
         }
     }
 
+    #[tactic(auto, unfolding(crate::specs::Calls::step_answer, crate::specs::Calls::stepped_in))]
     fn step_in(&mut self) -> Result<(), NotReady> {
         match self {
             Bay::Fitted(drive) => drive.step_in(),
@@ -84,6 +85,7 @@ impl<D: Drive> Drive for Bay<D> {
         }
     }
 
+    #[tactic(auto, unfolding(crate::specs::Calls::step_answer, crate::specs::Calls::stepped_out))]
     fn step_out(&mut self) -> Result<(), NotReady> {
         match self {
             Bay::Fitted(drive) => drive.step_out(),
@@ -91,6 +93,9 @@ impl<D: Drive> Drive for Bay<D> {
         }
     }
 
+    #[tactic(auto, unfolding(crate::specs::Calls::read_answer, // the answer
+    crate::specs::Calls::handed_over, // the buffer
+    crate::specs::Calls::after_read))]
     fn read(&mut self, at: SectorAddress, buffer: &mut SectorBuffer) -> Result<(), ReadError> {
         match self {
             Bay::Fitted(drive) => drive.read(at, buffer),
@@ -98,6 +103,7 @@ impl<D: Drive> Drive for Bay<D> {
         }
     }
 
+    #[tactic(auto, unfolding(crate::specs::Calls::write_answer, crate::specs::Calls::after_write))]
     fn write(&mut self, at: SectorAddress, buffer: &SectorBuffer) -> Result<(), WriteError> {
         match self {
             Bay::Fitted(drive) => drive.write(at, buffer),
@@ -105,6 +111,8 @@ impl<D: Drive> Drive for Bay<D> {
         }
     }
 
+    #[tactic(auto, unfolding(crate::specs::Calls::format_answer, // the answer
+    crate::specs::Calls::after_format))]
     fn format(
         &mut self,
         head: u8,

@@ -1,11 +1,11 @@
-// The buffer of an attempt.
+//! The buffer of an attempt.
 ghost use Rattle.std.specs.Prelude.{◌≡◌, take};
 ghost use Rattle.sector.specs.Sizes.{bytes_of};
 ghost use Rattle.drive.specs.Calls.{blank_buffer};
 
 use sector::SizeCode;
 
-// Room for the longest sector, and for its check bytes. A shorter sector uses the first bytes.
+/// Room for the longest sector, and for its check bytes. A shorter sector uses the first bytes.
 #[derive(Clone, Copy)]
 pub struct SectorBuffer {
     pub bytes: [u8; 1024],
@@ -13,7 +13,7 @@ pub struct SectorBuffer {
 }
 
 impl SectorBuffer {
-    // A buffer of zeros.
+    /// A buffer of zeros.
     pub fn zeroed() -> SectorBuffer
         ensures { result ≡ blank_buffer }
     {
@@ -23,8 +23,7 @@ impl SectorBuffer {
         }
     }
 
-    // The bytes of a sector of this size, which stand first. The size comes with each call, as it does with each attempt. A twin
-    // that lends them for writing gets no proof, since they are a part of an array field.
+    /// The bytes of a sector of this size, which stand first.
     pub fn sector(&self, size: SizeCode) -> &[u8]
         ensures { result.now ≡ take (bytes_of size) self.now.bytes }
     {

@@ -1,4 +1,4 @@
-// The bay without a drive.
+//! The bay without a drive.
 ghost use Rattle.std.specs.Prelude.{[]};
 ghost use Rattle.drive.specs.Empty.{empty_model};
 ghost use Rattle.std.proofs.Common.{rules};
@@ -9,11 +9,10 @@ use super::drive::Drive;
 use super::place::SectorAddress;
 use sector::SizeCode;
 
-// A bay without a drive: one cylinder, one head, no room on its track, never ready.
+/// A bay without a drive: one cylinder, one head, no room on its track, never ready.
 #[derive(Clone, Copy, Debug)]
 pub struct EmptyBay;
 
-#[tactic(auto, unfolding(crate::specs::Calls::step_answer, crate::specs::Calls::stepped_in, crate::specs::Calls::stepped_out, crate::specs::Calls::read_answer, crate::specs::Calls::handed_over, crate::specs::Calls::after_read, crate::specs::Calls::write_answer, crate::specs::Calls::after_write, crate::specs::Calls::format_answer, crate::specs::Calls::after_format))]
 impl Drive for EmptyBay {
     const MOST_CYLINDERS: u16 = 1;
 
@@ -53,22 +52,30 @@ impl Drive for EmptyBay {
         0
     }
 
+    #[tactic(auto, unfolding(crate::specs::Calls::step_answer, crate::specs::Calls::stepped_in))]
     fn step_in(&mut self) -> Result<(), NotReady> {
         Err(NotReady)
     }
 
+    #[tactic(auto, unfolding(crate::specs::Calls::step_answer, crate::specs::Calls::stepped_out))]
     fn step_out(&mut self) -> Result<(), NotReady> {
         Err(NotReady)
     }
 
+    #[tactic(auto, unfolding(crate::specs::Calls::read_answer, // the answer
+    crate::specs::Calls::handed_over, // the buffer
+    crate::specs::Calls::after_read))]
     fn read(&mut self, _at: SectorAddress, _buffer: &mut SectorBuffer) -> Result<(), ReadError> {
         Err(ReadError::NotReady)
     }
 
+    #[tactic(auto, unfolding(crate::specs::Calls::write_answer, crate::specs::Calls::after_write))]
     fn write(&mut self, _at: SectorAddress, _buffer: &SectorBuffer) -> Result<(), WriteError> {
         Err(WriteError::NotReady)
     }
 
+    #[tactic(auto, unfolding(crate::specs::Calls::format_answer, // the answer
+    crate::specs::Calls::after_format))]
     fn format(
         &mut self,
         _head: u8,

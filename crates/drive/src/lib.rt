@@ -1,7 +1,8 @@
-// What a drive is and does, as one trait that every make of drive implements and is proved against.
-//
-// Promised here: what each call answers, what every buffer holds after it, and the drive's meaning after it, its sector
-// memory included, for every input.
+//! What a drive is and does, as one trait that every make of drive implements and is proved
+//! against.
+//!
+//! Promised here: what each call answers, what every buffer holds after it, and the drive's meaning
+//! after it, its sector memory included, for every input.
 #![tactic(auto)]
 
 mod answers;

@@ -1,7 +1,7 @@
-// Where an attempt is made.
+//! Where an attempt is made.
 use sector::SizeCode;
 
-// A cylinder, a head and a sector number.
+/// A cylinder, a head and a sector number.
 #[derive(Clone, Copy, PartialEq, Eq, Debug)]
 pub struct Place {
     pub cylinder: u16,
@@ -9,7 +9,8 @@ pub struct Place {
     pub number: u8,
 }
 
-// What an attempt names: a sector's number and size under a head, at the cylinder where the head stands.
+/// What an attempt names: a sector's number and size under a head, at the cylinder where the head
+/// stands.
 #[derive(Clone, Copy, PartialEq, Eq, Debug)]
 pub struct SectorAddress {
     pub head: u8,

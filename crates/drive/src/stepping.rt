@@ -1,10 +1,10 @@
-// Moving the head toward a cylinder.
+//! Moving the head toward a cylinder.
 ghost use Rattle.std.specs.Prelude.{◌≡◌};
 ghost use Rattle.drive.specs.Calls.{nearer};
 
 use super::drive::Drive;
 
-// One step toward a cylinder; none where the head stands there, or where the drive is not ready.
+/// One step toward a cylinder; none where the head stands there, or where the drive is not ready.
 pub fn step_toward<D: Drive>(drive: &mut D, cylinder: u16)
     ensures { D.meaning drive.new ≡ nearer (D.meaning drive.old) cylinder }
 {

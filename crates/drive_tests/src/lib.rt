@@ -1,5 +1,5 @@
-// Images in use: refusals at the edges of each range, tracks of every kind, and what attempts make of them. It has no code of its
-// own.
+//! Images in use: refusals at the edges of each range, tracks of every kind, and what attempts make
+//! of them. It has no code of its own.
 #![tactic(auto)]
 
 #[cfg(test)]
@@ -30,7 +30,7 @@ mod tests {
         number: Option<u8>,
     }
 
-    // A row of the tables below, which have 0 where nothing is refused, since a column of numbers is easier to read.
+    // A row of the tables below, with 0 where nothing is refused.
     const fn row(cylinders: u16, heads: u8, capacity: u32, length: usize, number: u8) -> Asked {
         Asked {
             geometry: geometry(cylinders, heads, capacity),
@@ -101,85 +101,54 @@ mod tests {
         }
     }
 
-    // The start of a record: count, size code, and the number and the mark of the first two sectors; what a read of sector 7 of
-    // 256 bytes then answers, at a capacity of 512.
+    // The start of a record: count, size code, and the number and the mark of the first two
+    // sectors; what a read of sector 7 of 256 bytes then answers, at a capacity of 512.
     #[derive(Clone, Copy)]
     struct Header {
         bytes: [u8; 6],
         answer: Result<(), ReadError>,
     }
 
+    const fn begins(bytes: [u8; 6], answer: Result<(), ReadError>) -> Header {
+        Header { bytes, answer }
+    }
+
+    // Reads sector 7 of a track whose record starts so, into a buffer of ones.
+    fn read_under(rt: &impl Abort, heap: Global, header: Header) -> Result<(), Fail> {
+        let mut memory = vec![in heap; 0u8; 898]?;
+        assert!(rt; memory.len() == 898);
+        memory[0..6].copy_from_slice(&header.bytes);
+        let mut bay = fitted(WinchesterImage::new(geometry(1, 1, 512), false, memory));
+        let mut buffer = SectorBuffer {
+            bytes: [1; 1024],
+            check: [1; 4],
+        };
+        let answer = bay.read(at(7, SizeCode::Bytes256), &mut buffer);
+        assert_eq!(rt; answer, header.answer);
+        assert_eq!(rt; buffer.bytes[255] == 0, header.answer.is_ok());
+        assert_eq!(rt; buffer.bytes[256], 1);
+        Ok(())
+    }
+
     #[test]
     fn tracks(rt: HostRuntime) -> Result<(), Fail> {
         let rows = [
-            Header {
-                bytes: [1, 0, 7, 0, 0, 0],
-                answer: Ok(()),
-            },
-            Header {
-                bytes: [2, 0, 9, 0, 7, 0],
-                answer: Ok(()),
-            },
-            Header {
-                bytes: [1, 0, 7, 0x80, 0, 0],
-                answer: Err(ReadError::BadBlock),
-            },
-            Header {
-                bytes: [2, 0, 7, 0x80, 7, 0],
-                answer: Err(ReadError::BadBlock),
-            },
-            Header {
-                bytes: [2, 0, 7, 0, 7, 0x80],
-                answer: Ok(()),
-            },
-            Header {
-                bytes: [1, 0, 9, 0, 7, 0],
-                answer: Err(ReadError::NoId),
-            },
-            Header {
-                bytes: [1, 3, 7, 0, 0, 0],
-                answer: Err(ReadError::NoId),
-            },
-            Header {
-                bytes: [0, 0, 7, 0, 0, 0],
-                answer: Err(ReadError::NoId),
-            },
-            Header {
-                bytes: [65, 0, 7, 0, 0, 0],
-                answer: Err(ReadError::NoId),
-            },
-            Header {
-                bytes: [1, 4, 7, 0, 0, 0],
-                answer: Err(ReadError::NoId),
-            },
-            Header {
-                bytes: [1, 0, 7, 1, 0, 0],
-                answer: Err(ReadError::NoId),
-            },
-            Header {
-                bytes: [2, 0, 7, 0, 0, 0x81],
-                answer: Err(ReadError::NoId),
-            },
-            Header {
-                bytes: [3, 0, 7, 0, 0, 0],
-                answer: Err(ReadError::NoId),
-            },
+            begins([1, 0, 7, 0, 0, 0], Ok(())),
+            begins([2, 0, 9, 0, 7, 0], Ok(())),
+            begins([1, 0, 7, 0x80, 0, 0], Err(ReadError::BadBlock)),
+            begins([2, 0, 7, 0x80, 7, 0], Err(ReadError::BadBlock)),
+            begins([2, 0, 7, 0, 7, 0x80], Ok(())),
+            begins([1, 0, 9, 0, 7, 0], Err(ReadError::NoId)),
+            begins([1, 3, 7, 0, 0, 0], Err(ReadError::NoId)),
+            begins([0, 0, 7, 0, 0, 0], Err(ReadError::NoId)),
+            begins([65, 0, 7, 0, 0, 0], Err(ReadError::NoId)),
+            begins([1, 4, 7, 0, 0, 0], Err(ReadError::NoId)),
+            begins([1, 0, 7, 1, 0, 0], Err(ReadError::NoId)),
+            begins([2, 0, 7, 0, 0, 0x81], Err(ReadError::NoId)),
+            begins([3, 0, 7, 0, 0, 0], Err(ReadError::NoId)),
         ];
-        for header in rows {
-            let mut memory = vec![in rt.alloc(); 0u8; 898]?;
-            assert!(rt; memory.len() == 898);
-            memory[0..6].copy_from_slice(&header.bytes);
-            let mut bay = fitted(WinchesterImage::new(geometry(1, 1, 512), false, memory));
-            let mut buffer = SectorBuffer {
-                bytes: [1; 1024],
-                check: [1; 4],
-            };
-            assert_eq!(rt;
-                bay.read(at(7, SizeCode::Bytes256), &mut buffer),
-                header.answer
-            );
-            assert_eq!(rt; buffer.bytes[255] == 0, header.answer.is_ok());
-            assert_eq!(rt; buffer.bytes[256], 1);
+        for row in rows {
+            read_under(&rt, rt.alloc(), row)?;
         }
         Ok(())
     }
@@ -191,71 +160,73 @@ mod tests {
         }
     }
 
-    #[test]
-    fn written_and_read_back(rt: HostRuntime) -> Result<(), Fail> {
-        let memory = vec![in rt.alloc(); 9u8; 1796]?;
-        let mut bay = fitted(FloppyImage::new(geometry(2, 1, 512), false, memory));
-        let ids = [
-            SectorId {
-                number: 5,
-                bad: false,
-            },
-            SectorId {
-                number: 5,
-                bad: true,
-            },
-        ];
-        let _ = bay.step_in();
-        assert_eq!(rt;
-            bay.format(1, &ids, SizeCode::Bytes256, [1, 2, 3, 4]),
-            Err(FormatError::BadHead)
-        );
-        assert_eq!(rt;
-            bay.format(0, &[], SizeCode::Bytes256, [1, 2, 3, 4]),
-            Err(FormatError::BadCount)
-        );
-        assert_eq!(rt;
-            bay.format(0, &ids, SizeCode::Bytes512, [1, 2, 3, 4]),
-            Err(FormatError::TooLong)
-        );
-        assert_eq!(rt;
-            bay.format(0, &ids, SizeCode::Bytes256, [1, 2, 3, 4]),
-            Ok(())
-        );
+    const fn id(number: u8, bad: bool) -> SectorId {
+        SectorId { number, bad }
+    }
+
+    // Formats the track under head 0 with sector 5 twice, the second bad; before that, formats that
+    // are refused.
+    fn format<D: Drive>(rt: &impl Abort, drive: &mut D) {
+        let ids = [id(5, false), id(5, true)];
+        let check = [1, 2, 3, 4];
+        let answer = drive.format(1, &ids, SizeCode::Bytes256, check);
+        assert_eq!(rt; answer, Err(FormatError::BadHead));
+        let answer = drive.format(0, &[], SizeCode::Bytes256, check);
+        assert_eq!(rt; answer, Err(FormatError::BadCount));
+        let answer = drive.format(0, &ids, SizeCode::Bytes512, check);
+        assert_eq!(rt; answer, Err(FormatError::TooLong));
+        let answer = drive.format(0, &ids, SizeCode::Bytes256, check);
+        assert_eq!(rt; answer, Ok(()));
+    }
+
+    // Writes sixes to sector 5, with sevens as check bytes, and reads them into a buffer of eights.
+    fn write_and_read<D: Drive>(rt: &impl Abort, drive: &mut D) {
         let mut buffer = SectorBuffer {
             bytes: [6; 1024],
             check: [7; 4],
         };
-        assert_eq!(rt;
-            bay.write(at(5, SizeCode::Bytes512), &buffer),
-            Err(WriteError::NoId)
-        );
-        assert_eq!(rt; bay.write(at(5, SizeCode::Bytes256), &buffer), Ok(()));
+        let answer = drive.write(at(5, SizeCode::Bytes512), &buffer);
+        assert_eq!(rt; answer, Err(WriteError::NoId));
+        let answer = drive.write(at(5, SizeCode::Bytes256), &buffer);
+        assert_eq!(rt; answer, Ok(()));
         buffer.bytes = [8; 1024];
-        assert_eq!(rt; bay.read(at(5, SizeCode::Bytes256), &mut buffer), Ok(()));
+        let answer = drive.read(at(5, SizeCode::Bytes256), &mut buffer);
+        assert_eq!(rt; answer, Ok(()));
         assert!(rt; buffer.bytes[255] == 6 && buffer.bytes[256] == 8 && buffer.check[3] == 7);
+    }
+
+    // What the memory then has: a byte's place, and the byte. The record of cylinder 1 begins at
+    // 898: its head, the first pair not used, the sectors' check bytes and the ends of their bytes.
+    const WRITTEN: &[(usize, u8)] = &[
+        (897, 9),
+        (898, 2),
+        (899, 0),
+        (900, 5),
+        (901, 0),
+        (902, 5),
+        (903, 0x80),
+        (904, 9),
+        (1028, 7),
+        (1032, 1),
+        (1036, 9),
+        (1284, 6),
+        (1539, 6),
+        (1540, 0),
+        (1795, 0),
+    ];
+
+    #[test]
+    fn written_and_read_back(rt: HostRuntime) -> Result<(), Fail> {
+        let memory = vec![in rt.alloc(); 9u8; 1796]?;
+        let mut bay = fitted(FloppyImage::new(geometry(2, 1, 512), false, memory));
+        let _ = bay.step_in();
+        format(&rt, &mut bay);
+        write_and_read(&rt, &mut bay);
         let memory = memory_of(bay);
         assert!(rt; memory.len() == 1796);
-        // the record of cylinder 1: its head, the first pair not used, the sectors' check bytes and the ends of their bytes
-        let expected = [
-            (898, 2),
-            (899, 0),
-            (900, 5),
-            (901, 0),
-            (902, 5),
-            (903, 0x80),
-            (904, 9),
-            (1028, 7),
-            (1032, 1),
-            (1036, 9),
-        ];
-        for (place, byte) in expected {
-            assert_eq!(rt; memory.get(place).copied(), Some(byte));
+        for (place, byte) in WRITTEN {
+            assert_eq!(rt; memory.get(*place).copied(), Some(*byte), "byte {place}");
         }
-        assert!(rt;
-            memory[1284] == 6 && memory[1539] == 6 && memory[1540] == 0 && memory[1795] == 0
-        );
-        assert!(rt; memory[897] == 9);
         Ok(())
     }
 

@@ -1,4 +1,4 @@
-// Attempts on the drive below, as they come out under an entry.
+//! Attempts on the drive below, as they come out under an entry.
 ghost use Rattle.std.specs.Prelude.{◌≡◌};
 ghost use Rattle.sector.specs.Bits.{marked};
 ghost use Rattle.drive.specs.Calls.{read_answer, handed_over, after_read};
@@ -9,16 +9,17 @@ use super::entry::{FaultEntry, FaultKind};
 use drive::{Drive, ReadError, SectorAddress, SectorBuffer};
 use sector::{Burst, SizeCode, invert_burst};
 
-// Does what an attempt meets keep it from the drive below?
+/// Whether what an attempt meets keeps it from the drive below.
 pub fn is_hidden(met: Option<FaultEntry>) -> bool
     ensures { result ≡ hides_all met }
 {
     met.is_some_and(|entry| entry.kind == FaultKind::NoId)
 }
 
-// A read attempt under no data mark. What the drive below delivers goes nowhere.
+/// A read attempt under no data mark. What the drive below delivers goes nowhere.
 pub fn read_unmarked<D: Drive>(drive: &mut D, at: SectorAddress) -> Result<(), ReadError>
-    ensures answer { result ≡ unmarked_answer (read_answer (D.meaning drive.old) at.head at.number at.size) }
+    ensures answer { result
+        ≡ unmarked_answer (read_answer (D.meaning drive.old) at.head at.number at.size) }
     ensures after { D.meaning drive.new ≡ after_read (D.meaning drive.old) at.head at.number }
 {
     let mut aside = SectorBuffer::zeroed();
@@ -26,8 +27,7 @@ pub fn read_unmarked<D: Drive>(drive: &mut D, at: SectorAddress) -> Result<(), R
     Err(ReadError::NoDataMark)
 }
 
-// Inverts a burst in the sector of this size that stands in the buffer, and in its check bytes. No call can lend a part of the
-// buffer's array for writing, so the part is taken here.
+// Inverts a burst in the sector of this size that stands in the buffer, and in its check bytes.
 fn damage(buffer: &mut SectorBuffer, size: SizeCode, burst: Burst)
     ensures { buffer.new ≡ with_wrong_bits size (marked burst.first burst.pattern) buffer.old }
 {
@@ -36,7 +36,7 @@ fn damage(buffer: &mut SectorBuffer, size: SizeCode, burst: Burst)
     invert_burst(&mut buffer.check, (8 * length) as u16, burst);
 }
 
-// A read attempt under wrong bits. Each of the two says what a read of the drive below does, and adds its own.
+/// A read attempt under wrong bits: the burst is inverted in what the drive below delivers.
 pub fn read_damaged<D: Drive>(
     drive: &mut D,
     at: SectorAddress,
@@ -44,7 +44,10 @@ pub fn read_damaged<D: Drive>(
     buffer: &mut SectorBuffer,
 ) -> Result<(), ReadError>
     ensures answer { result ≡ read_answer (D.meaning drive.old) at.head at.number at.size }
-    ensures handed { buffer.new ≡ damaged_buffer (read_answer (D.meaning drive.old) at.head at.number at.size) at.size (marked burst.first burst.pattern) (handed_over (D.meaning drive.old) at.head at.number at.size buffer.old) }
+    ensures handed { buffer.new
+        ≡ damaged_buffer (read_answer (D.meaning drive.old) at.head at.number at.size) at.size
+        (marked burst.first burst.pattern)
+        (handed_over (D.meaning drive.old) at.head at.number at.size buffer.old) }
     ensures after { D.meaning drive.new ≡ after_read (D.meaning drive.old) at.head at.number }
 {
     drive.read(at, buffer)?;

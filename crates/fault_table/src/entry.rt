@@ -1,4 +1,4 @@
-// The entries of a fault table.
+//! The entries of a fault table.
 ghost use Rattle.std.specs.Prelude.{◌≡◌};
 ghost use Rattle.fault_table.specs.Entries.{kind_number, in_range, applies_at, met, spent};
 
@@ -7,7 +7,7 @@ use drive::{MOST_CYLINDERS, MOST_HEADS, Place};
 use sector::Burst;
 use std::fmt;
 
-// What an attempt meets: no ID, no data mark, or the burst's bits wrong.
+/// What an attempt meets: no ID, no data mark, or the burst's bits wrong.
 #[derive(Clone, Copy, PartialEq, Eq, Debug)]
 pub enum FaultKind {
     NoId = 1,
@@ -23,7 +23,8 @@ impl From<FaultKind> for u8 {
     }
 }
 
-// A fault at a place, for a number of attempts.
+/// A fault at a place, for a number of attempts. A table takes cylinders below 1,024, heads below
+/// 8, first bits below 8,224, odd patterns below 32 and attempts from 1 on, whatever the kind.
 #[derive(Clone, Copy, PartialEq, Eq, Debug)]
 pub struct FaultEntry {
     pub place: Place,
@@ -32,8 +33,7 @@ pub struct FaultEntry {
     pub attempts: u16,
 }
 
-// Stands where a table has no entry yet, since ArrayVec asks for a value there: it covers no attempt. No kind of fault is the
-// usual one, so it is not derived.
+// What stands where a table has no entry yet: it covers no attempt.
 impl Default for FaultEntry {
     ghost is_default = { λ entry. entry.attempts ≡ 0 };
 
@@ -67,7 +67,7 @@ impl fmt::Display for FaultEntry {
 }
 
 impl FaultEntry {
-    // Is the entry one that a table takes? Whatever its kind, its burst is asked too.
+    /// Whether a table takes the entry.
     pub fn is_in_range(self) -> bool
         ensures { result ≡ in_range self }
     {
@@ -79,7 +79,7 @@ impl FaultEntry {
             && self.attempts >= 1
     }
 
-    // Does an attempt at this place meet the entry, when it meets none before it?
+    // Whether an attempt at this place meets the entry, where it meets none before it.
     fn applies(self, place: Place) -> bool
         ensures { result ≡ applies_at place.cylinder place.head place.number self }
     {
@@ -90,10 +90,12 @@ impl FaultEntry {
 // Room for the entries of a table.
 pub(crate) type Entries = ArrayVec<FaultEntry, 32>;
 
-// The entry that an attempt at a place meets, if any, as it is before the attempt; it then has one attempt less.
+// The entry that an attempt at a place meets, if any, as it is before the attempt; it then has one
+// attempt less.
 pub(crate) fn spend(entries: &mut Entries, place: Place) -> Option<FaultEntry>
     ensures value { result ≡ met place.cylinder place.head place.number entries.old.items }
-    ensures after { entries.new.items ≡ spent place.cylinder place.head place.number entries.old.items }
+    ensures after { entries.new.items
+        ≡ spent place.cylinder place.head place.number entries.old.items }
 {
     for entry in entries.iter_mut() {
         if entry.applies(place) {

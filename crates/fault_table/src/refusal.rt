@@ -1,10 +1,10 @@
-// Why an entry is refused.
+//! Why an entry is refused.
 ghost use Rattle.std.specs.Prelude.{◌≡◌};
 ghost use Rattle.fault_table.specs.Adding.{refusal_number};
 
 use thiserror::Error;
 
-// What stands against an entry, in the order of asking.
+/// What stands against an entry, in the order of asking.
 #[derive(Clone, Copy, PartialEq, Eq, Debug, Error)]
 pub enum AddRefusal {
     #[error("the table has 32 entries")]

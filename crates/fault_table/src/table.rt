@@ -1,4 +1,4 @@
-// The fault table.
+//! The fault table.
 ghost use Rattle.std.specs.Prelude.{◌≡◌, []};
 ghost use Rattle.fault_table.specs.Adding.{add_answer, after_add};
 ghost use Rattle.fault_table.specs.Faults.{with_faults};
@@ -13,9 +13,8 @@ use drive::{
 };
 use sector::SizeCode;
 
-// A drive under faults. Entries of a place apply one after another, in the order of adding, each for its number of attempts.
-// Used-up ones stay.
-// It has no `impl Model`, since what a drive means holds functions, so clauses name the meaning by `with_faults`.
+/// A drive under faults. Entries of a place apply one after another, in the order of adding, each
+/// for its number of attempts. Used-up ones stay. Clauses name its meaning by `with_faults`.
 #[derive(Drop)]
 pub struct FaultTable<D: Drive> {
     drive: D,
@@ -23,11 +22,12 @@ pub struct FaultTable<D: Drive> {
 }
 
 impl<D: Drive> FaultTable<D> {
-    // A drive under no faults yet.
+    /// A drive under no faults yet.
     pub fn over(drive: D) -> FaultTable<D>
         ensures drive { result.drive ≡ drive }
         ensures entries { result.faults.items ≡ [] }
-        ensures meaning { with_faults result.faults.items (D.meaning result.drive) ≡ D.meaning drive }
+        ensures meaning { with_faults result.faults.items (D.meaning result.drive)
+            ≡ D.meaning drive }
     {
         FaultTable {
             drive,
@@ -35,7 +35,7 @@ impl<D: Drive> FaultTable<D> {
         }
     }
 
-    // The drive below, as it is now.
+    /// The drive below, as it is now.
     pub fn into_drive(self) -> D
         ensures { result ≡ self.drive }
     {
@@ -43,12 +43,14 @@ impl<D: Drive> FaultTable<D> {
         drive
     }
 
-    // Adds an entry behind the others, unless there are 32 or it is out of range.
+    /// Adds an entry behind the others. Refused, in this order: where there are 32, and where it is
+    /// out of range.
     pub fn add(&mut self, entry: FaultEntry) -> Result<(), AddRefusal>
         ensures answer { result ≡ add_answer self.old.faults.items entry }
         ensures entries { self.new.faults.items ≡ after_add self.old.faults.items entry }
         ensures drive { self.new.drive ≡ self.old.drive }
-        ensures meaning { with_faults self.new.faults.items (D.meaning self.new.drive) ≡ with_faults (after_add self.old.faults.items entry) (D.meaning self.old.drive) }
+        ensures meaning { with_faults self.new.faults.items (D.meaning self.new.drive)
+            ≡ with_faults (after_add self.old.faults.items entry) (D.meaning self.old.drive) }
     {
         if self.faults.is_full() {
             return Err(AddRefusal::TableFull);
@@ -62,7 +64,8 @@ impl<D: Drive> FaultTable<D> {
 
     // The place that an attempt is made at.
     fn place_of(&self, at: SectorAddress) -> Place
-        ensures { result ≡ record { cylinder = (D.meaning self.now.drive).cylinder; head = at.head; number = at.number } }
+        ensures { result ≡ record
+            { cylinder = (D.meaning self.now.drive).cylinder; head = at.head; number = at.number } }
     {
         Place {
             cylinder: self.drive.cylinder(),
@@ -72,7 +75,7 @@ impl<D: Drive> FaultTable<D> {
     }
 }
 
-// Calls that no entry changes are handed to the drive below, each by itself: the language has no shorter way to say so.
+// Calls that no entry changes are handed to the drive below.
 impl<D: Drive> Drive for FaultTable<D> {
     const MOST_CYLINDERS: u16 = D::MOST_CYLINDERS;
 
@@ -122,7 +125,9 @@ impl<D: Drive> Drive for FaultTable<D> {
         self.drive.step_out()
     }
 
-    #[tactic(auto, unfolding(drive::specs::Calls::read_answer, drive::specs::Calls::handed_over, drive::specs::Calls::after_read))]
+    #[tactic(auto, unfolding(drive::specs::Calls::read_answer, // the answer
+    drive::specs::Calls::handed_over, // the buffer
+    drive::specs::Calls::after_read))]
     fn read(&mut self, at: SectorAddress, buffer: &mut SectorBuffer) -> Result<(), ReadError> {
         if !self.drive.is_ready() {
             return Err(ReadError::NotReady);
@@ -153,7 +158,8 @@ impl<D: Drive> Drive for FaultTable<D> {
         self.drive.write(at, buffer)
     }
 
-    #[tactic(auto, unfolding(drive::specs::Calls::format_answer, drive::specs::Calls::after_format))]
+    #[tactic(auto, unfolding(drive::specs::Calls::format_answer, // the answer
+    drive::specs::Calls::after_format))]
     fn format(
         &mut self,
         head: u8,

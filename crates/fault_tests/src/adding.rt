@@ -1,4 +1,4 @@
-// Entries at both edges of each range, and the thirty-third.
+//! Entries at both edges of each range, and the thirty-third.
 use drive::{Drive, EmptyBay, Place};
 use fault_table::{FaultEntry, FaultKind, FaultTable};
 use sector::Burst;
@@ -21,7 +21,8 @@ fn add<D: Drive>(table: &mut FaultTable<D>, entry: FaultEntry) -> Result<(), u8>
     table.add(entry).map_err(u8::from)
 }
 
-// Entries that a table takes, and entries next to them that it refuses: whatever the kind, the burst is asked too.
+// Entries that a table takes, and entries next to them that it refuses: whatever the kind, the
+// burst is asked too.
 #[test]
 fn ranges(rt: HostRuntime) {
     let taken = [

@@ -1,4 +1,4 @@
-// What attempts show under entries.
+//! What attempts show under entries.
 use drive::{
     Bay, Drive, EmptyBay, Geometry, Place, ReadError, SectorAddress, SectorBuffer, SectorId,
     WriteError,
@@ -10,7 +10,8 @@ use std::alloc::Global;
 use std::process::Abort;
 use std::test::Fail;
 
-// An entry at cylinder 0 and head 0, whose burst is in the first byte: a pattern of 1 makes a 0 there a 1, and one of 5 a 5.
+// An entry at cylinder 0 and head 0, whose burst is in the first byte: a pattern of 1 makes a 0
+// there a 1, and one of 5 a 5.
 const fn entry(number: u8, kind: FaultKind, pattern: u8, attempts: u16) -> FaultEntry {
     FaultEntry {
         place: Place {
@@ -33,22 +34,15 @@ const GEOMETRY: Geometry = Geometry {
     capacity: 256,
 };
 
-// Two cylinders of one head, with sectors 1 and 2, of 128 zeros, at cylinder 0. A bay gives its image back, if it has one, by
-// a match here as in the tests of images: neither crate of tests stands on the other.
+const fn good(number: u8) -> SectorId {
+    SectorId { number, bad: false }
+}
+
+// Two cylinders of one head, with sectors 1 and 2, of 128 zeros, at cylinder 0.
 fn formatted(heap: Global, protected: bool) -> Result<Bay<WinchesterImage>, Fail> {
     let memory = vec![in heap; 0u8; 1284]?;
     let mut bay = fitted(WinchesterImage::new(GEOMETRY, false, memory));
-    let ids = [
-        SectorId {
-            number: 1,
-            bad: false,
-        },
-        SectorId {
-            number: 2,
-            bad: false,
-        },
-    ];
-    let _ = bay.format(0, &ids, SizeCode::Bytes128, [0; 4]);
+    let _ = bay.format(0, &[good(1), good(2)], SizeCode::Bytes128, [0; 4]);
     if !protected {
         return Ok(bay);
     }
@@ -67,8 +61,8 @@ const fn at(number: u8) -> SectorAddress {
     }
 }
 
-// What a read attempt shows: i for no ID, m for no data mark, and the first byte of a delivery as a digit. The tests have a
-// letter for each attempt, so that a run of them reads as a word.
+// What a read attempt shows, as a letter: i for no ID, m for no data mark, and the first byte of a
+// delivery as a digit.
 fn read<D: Drive>(drive: &mut D, number: u8) -> u8 {
     let mut buffer = SectorBuffer::zeroed();
     match drive.read(at(number), &mut buffer) {
@@ -98,7 +92,7 @@ fn add<D: Drive>(table: &mut FaultTable<D>, entries: &[FaultEntry]) -> Result<()
     Ok(())
 }
 
-// A run of read attempts. That of write attempts below differs in the one call; a closure for it would say more than it saves.
+// A run of read attempts shows these letters.
 fn reads<D: Drive>(rt: &impl Abort, drive: &mut D, number: u8, shown: &[u8]) {
     for expected in shown {
         assert_eq!(rt; read(drive, number), *expected);
@@ -142,7 +136,8 @@ fn one_after_another(rt: HostRuntime) -> Result<(), Fail> {
     Ok(())
 }
 
-// On a write only no ID is met; the other kinds are used up. A sector that is not there uses one up too.
+// On a write only no ID is met; the other kinds are used up. A sector that is not there uses one up
+// too.
 #[test]
 fn writes_use_up(rt: HostRuntime) -> Result<(), Fail> {
     let mut table = FaultTable::over(formatted(rt.alloc(), false)?);

@@ -1,4 +1,4 @@
-// The calls on a controller, and their answers, as values.
+//! The calls on a controller, and their answers, as values.
 ghost use Rattle.std.specs.Prelude.{◌≡◌};
 ghost use Rattle.controller.specs.Model.{model_of};
 ghost use Rattle.histories.specs.Runs.{answer_to, called};
@@ -6,24 +6,26 @@ ghost use Rattle.histories.specs.Runs.{answer_to, called};
 use controller::{Controller, Refusal};
 use drive::Drive;
 
-// A call on a controller.
+/// A call on a controller.
 #[derive(Clone, Copy, Debug)]
 pub enum Call {
-    // A read of the register of this number.
+    /// A read of the register of this number.
     Read(u8),
-    // A write to the register of this number, and the byte.
+    /// A write to the register of this number, and the byte.
     Write(u8, u8),
     Turn,
     Reset,
 }
 
-// What a call answers: the byte that a read gives, that any other call is done, or why an access is refused.
+/// What a call answers: the byte that a read gives, that any other call is done, or why an access
+/// is refused.
 pub type Answer = Result<Option<u8>, Refusal>;
 
-// Makes one call.
+/// Makes one call.
 pub fn make_call<W: Drive, F: Drive>(controller: &mut Controller<W, F>, call: Call) -> Answer
     ensures answer { result ≡ answer_to (model_of W.meaning F.meaning controller.old) call }
-    ensures after { model_of W.meaning F.meaning controller.new ≡ called (model_of W.meaning F.meaning controller.old) call }
+    ensures after { model_of W.meaning F.meaning controller.new
+        ≡ called (model_of W.meaning F.meaning controller.old) call }
 {
     match call {
         Call::Read(number) => controller.read_register(number).map(Some),

@@ -1,4 +1,4 @@
-// A list of calls, made one after another.
+//! A list of calls, made one after another.
 ghost use Rattle.std.specs.Prelude.{◌≡◌, MatchResult};
 ghost use Rattle.controller.specs.Model.{model_of};
 ghost use Rattle.histories.specs.Runs.{runs, answers, Continues};
@@ -8,16 +8,25 @@ use controller::Controller;
 use drive::Drive;
 use std::alloc::{AllocError, Global};
 
-// Makes the calls, and hands back every answer. Room for the answers is had first: where memory is wanting, no call is made.
+/// Makes the calls, and hands back every answer. Room for the answers is had first: where memory is
+/// wanting, no call is made.
 #[tactic(auto, using(crate::proofs::Runs::steps))]
 pub fn run<W: Drive, F: Drive>(
     controller: &mut Controller<W, F>,
     heap: Global,
     calls: &[Call],
 ) -> Result<Vec<Answer>, AllocError>
-    ensures answers { MatchResult result (λ v. v.items ≡ answers (model_of W.meaning F.meaning controller.old) calls.now) (λ _. controller.new ≡ controller.old) }
-    ensures after { MatchResult result (λ _. model_of W.meaning F.meaning controller.new ≡ runs (model_of W.meaning F.meaning controller.old) calls.now) (λ _. controller.new ≡ controller.old) }
-    ensures history { MatchResult result (λ _. Continues (model_of W.meaning F.meaning controller.old) calls.now (model_of W.meaning F.meaning controller.new)) (λ _. controller.new ≡ controller.old) }
+    ensures answers { MatchResult result
+        (λ v. v.items ≡ answers (model_of W.meaning F.meaning controller.old) calls.now)
+        (λ _. controller.new ≡ controller.old) }
+    ensures after { MatchResult result
+        (λ _. model_of W.meaning F.meaning controller.new
+        ≡ runs (model_of W.meaning F.meaning controller.old) calls.now)
+        (λ _. controller.new ≡ controller.old) }
+    ensures history { MatchResult result
+        (λ _. Continues (model_of W.meaning F.meaning controller.old) calls.now
+        (model_of W.meaning F.meaning controller.new))
+        (λ _. controller.new ≡ controller.old) }
 {
     let mut answers = Vec::with_capacity(heap, calls.len())?;
     for call in calls {

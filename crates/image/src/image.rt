@@ -1,4 +1,4 @@
-// Images of either make.
+//! Images of any make, over sector memory that they own.
 ghost use Rattle.std.specs.Prelude.{◌≡◌, ◌+◌, ◌*◌, ◌<◌, ◌≤◌, length};
 ghost use Rattle.drive.specs.Bounds.{Bytes};
 
@@ -9,7 +9,7 @@ use std::marker::PhantomData;
 mod calls;
 mod opening;
 
-// An image of a make over sector memory that it owns: the cylinder under its head, and a record for each track.
+/// An image over its sector memory: the cylinder under its head, and a record for each track.
 #[derive(Drop)]
 pub struct Image<M: Make> {
     geometry: Geometry,
@@ -21,10 +21,13 @@ pub struct Image<M: Make> {
     ghost inside: { cylinder < geometry.cylinders },
     ghost headed: { 1 ≤ geometry.heads },
     ghost small: { geometry.capacity ≤ 65536 },
-    ghost whole: { length memory.items ≡ (geometry.cylinders * geometry.heads) * (386 + geometry.capacity) },
+    ghost whole: { length memory.items
+        ≡ (geometry.cylinders * geometry.heads) * (386 + geometry.capacity) },
     ghost bytes: { Bytes memory.items },
 }
 
+/// A Winchester image: 1 to 1,024 cylinders and 1 to 8 heads.
 pub type WinchesterImage = Image<Winchester>;
 
+/// A floppy image: 1 to 256 cylinders and 1 or 2 heads.
 pub type FloppyImage = Image<Floppy>;

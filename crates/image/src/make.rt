@@ -1,15 +1,16 @@
-// The makes of images.
+//! The makes of images.
 ghost use Rattle.std.specs.Prelude.{ℕ};
 ghost use Rattle.drive.specs.Bounds.{measures, Limits};
 ghost use Rattle.std.proofs.Common.{lit≤};
 
-// A make, by the most cylinders and heads that an image of it has, each also as a clause can cite it. A make is no drive, so the
-// two and their limits stand here too, and an image hands them on.
+/// A make of image, by the most cylinders and heads that an image of it has.
 pub trait Make {
+    /// The most cylinders of an image of this make.
     const MOST_CYLINDERS: u16;
 
     ghost MOST_CYLINDERS: { ℕ };
 
+    /// The most heads of an image of this make.
     const MOST_HEADS: u8;
 
     ghost MOST_HEADS: { ℕ };
@@ -17,7 +18,7 @@ pub trait Make {
     ghost limits: { Limits (measures MOST_CYLINDERS MOST_HEADS) };
 }
 
-// Winchesters: up to 1,024 cylinders and 8 heads.
+/// Winchesters: up to 1,024 cylinders and 8 heads.
 #[derive(Clone, Copy, Debug)]
 pub struct Winchester;
 
@@ -30,10 +31,15 @@ impl Make for Winchester {
 
     ghost MOST_HEADS = { 8 };
 
-    ghost limits = { record { some_cylinder = lit≤ tt; few_cylinders = lit≤ tt; some_head = lit≤ tt; few_heads = lit≤ tt } };
+    ghost limits = { record {
+      some_cylinder = lit≤ tt;
+      few_cylinders = lit≤ tt;
+      some_head = lit≤ tt;
+      few_heads = lit≤ tt;
+    } };
 }
 
-// Floppies: up to 256 cylinders and 2 heads.
+/// Floppies: up to 256 cylinders and 2 heads.
 #[derive(Clone, Copy, Debug)]
 pub struct Floppy;
 
@@ -46,5 +52,10 @@ impl Make for Floppy {
 
     ghost MOST_HEADS = { 2 };
 
-    ghost limits = { record { some_cylinder = lit≤ tt; few_cylinders = lit≤ tt; some_head = lit≤ tt; few_heads = lit≤ tt } };
+    ghost limits = { record {
+      some_cylinder = lit≤ tt;
+      few_cylinders = lit≤ tt;
+      some_head = lit≤ tt;
+      few_heads = lit≤ tt;
+    } };
 }

@@ -1,4 +1,5 @@
-// Track records: a count, a size code, 64 pairs of number and mark, 64 times four check bytes, and the sectors' bytes, in order.
+//! Track records: a count, a size code, 64 pairs of number and mark, 64 times four check bytes, and
+//! the sectors' bytes, in order.
 ghost use Rattle.std.specs.Prelude.{◌≡◌, ℕ, ◌+◌, ◌*◌, ◌<◌, ◌≤◌, true, false, length, take, IfSome, MatchOption, Err, if◌then◌else◌, nat_eq, slice_set};
 ghost use Rattle.std.specs.List.{flat_map, list_all, position_from};
 ghost use Rattle.std.specs.Option.{option_map};
@@ -20,7 +21,7 @@ pub(crate) const HEADER: usize = 386;
 
 const BAD_MARK: u8 = 0x80;
 
-// Are the marks of these pairs marks?
+// Whether each of these marks is 0 or 80h.
 fn marks_fit(pairs: &[[u8; 2]]) -> bool
     ensures { result ≡ list_all is_marked pairs.now }
 {
@@ -30,7 +31,9 @@ fn marks_fit(pairs: &[[u8; 2]]) -> bool
 // The size of the sectors, and a pair of number and mark for each, where the record holds a track.
 fn sectors(track: &[u8]) -> Option<(SizeCode, &[[u8; 2]])>
     requires { 386 ≤ length track.now }
-    ensures { MatchOption result (formatted track.now ≡ false) (λ held. (formatted track.now ≡ true) × (held.0 ≡ size_in track.now) × (held.1.now ≡ pairs_in track.now)) }
+    ensures { MatchOption result (formatted track.now ≡ false)
+        (λ held. (formatted track.now ≡ true) × (held.0 ≡ size_in track.now)
+        × (held.1.now ≡ pairs_in track.now)) }
 {
     let size = SizeCode::try_from(track[1]).ok()?;
     let count = track[0] as usize;
@@ -87,8 +90,7 @@ fn check_range(slot: usize) -> Range<usize>
     start..start + 4
 }
 
-// Reads the sector in a slot, unless it is marked bad. No call can lend a part of the buffer's array for writing, so the part is
-// taken here.
+// Reads the sector in a slot, unless it is marked bad.
 pub(crate) fn read_slot(
     track: &[u8],
     slot: usize,
@@ -96,8 +98,12 @@ pub(crate) fn read_slot(
     buffer: &mut SectorBuffer,
 ) -> Result<(), ReadError>
     requires { Slot track.now size slot }
-    ensures answer { result ≡ (if nat_eq (mark_at track.now slot) bad_mark then Err read_error.BadBlock else done) }
-    ensures handed { buffer.new ≡ (if nat_eq (mark_at track.now slot) bad_mark then buffer.old else delivered intact (sector_at track.now slot) buffer.old) }
+    ensures answer { result
+        ≡ (if nat_eq (mark_at track.now slot) bad_mark then Err read_error.BadBlock else done) }
+    ensures handed { buffer.new
+        ≡ (if nat_eq (mark_at track.now slot) bad_mark
+        then buffer.old
+        else delivered intact (sector_at track.now slot) buffer.old) }
 {
     if track[3 + 2 * slot] == BAD_MARK {
         return Err(ReadError::BadBlock);
@@ -115,8 +121,13 @@ pub(crate) fn write_slot(
     buffer: &SectorBuffer,
 ) -> Result<(), WriteError>
     requires { Slot track.old size slot }
-    ensures answer { result ≡ (if nat_eq (mark_at track.old slot) bad_mark then Err write_error.BadBlock else done) }
-    ensures after { track.new ≡ (if nat_eq (mark_at track.old slot) bad_mark then track.old else with_sector slot (take (bytes_of size) buffer.now.bytes) buffer.now.check track.old) }
+    ensures answer { result
+        ≡ (if nat_eq (mark_at track.old slot) bad_mark then Err write_error.BadBlock else done) }
+    ensures after { track.new
+        ≡ (if nat_eq (mark_at track.old slot) bad_mark
+        then track.old
+        else with_sector slot (take (bytes_of size) buffer.now.bytes) buffer.now.check
+        track.old) }
     ensures bytes { Bytes track.new }
     ensures full { (length buffer.now.bytes ≡ 1024) × (length buffer.now.check ≡ 4) }
 {
@@ -135,9 +146,7 @@ fn pair_of(id: SectorId) -> [u8; 2]
     [id.number, if id.bad { BAD_MARK } else { 0 }]
 }
 
-// Writes the pairs of the IDs over the front of `pairs`. Each is written at its index, here and below: a proof knows nothing of
-// the elements that chunks_exact_mut has lent. That there are at most 64 is asked once, by `judge_format`, and known to all four
-// that take the IDs or their count from here on; a list with the fact in it would have to be made for them.
+// Writes the pairs of the IDs over the front of `pairs`.
 fn write_pairs(pairs: &mut [u8], ids: &[SectorId])
     requires { (2 * length ids.now ≤ length pairs.old) × (length ids.now ≤ 64) }
     ensures { pairs.new ≡ over 0 (flat_map pair_of ids.now) pairs.old }
@@ -166,7 +175,8 @@ fn write_head(track: &mut [u8], count: usize, size: SizeCode)
     track[1] = u8::from(size);
 }
 
-// Makes the record one of sectors with these IDs, of this size, with zero bytes and these check bytes.
+// Makes the record one of sectors with these IDs, of this size, with zero bytes and these check
+// bytes.
 pub(crate) fn format_track(track: &mut [u8], ids: &[SectorId], size: SizeCode, check: [u8; 4])
     requires { (length ids.now ≤ 64) × (386 + length ids.now * bytes_of size ≤ length track.old) }
     ensures after { track.new ≡ with_format ids.now size check track.old }

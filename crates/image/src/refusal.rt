@@ -1,4 +1,4 @@
-// Why an image is refused, and what comes back of it.
+//! Why an image is refused, and what comes back of it.
 ghost use Rattle.std.specs.Prelude.{◌≡◌};
 ghost use Rattle.image.specs.Image.{refusal_number};
 ghost use Rattle.image.specs.Refusals.{bay_of};
@@ -6,7 +6,7 @@ ghost use Rattle.image.specs.Refusals.{bay_of};
 use drive::{Bay, Drive};
 use thiserror::Error;
 
-// What is out of range, in the order of asking.
+/// What is out of range, in the order of asking.
 #[derive(Clone, Copy, PartialEq, Eq, Debug, Error)]
 pub enum Refusal {
     #[error("the make has no such number of cylinders")]
@@ -27,7 +27,7 @@ impl From<Refusal> for u8 {
     }
 }
 
-// What comes back of an image that is refused.
+/// A refused image: why, and the memory that came for it, untouched.
 #[derive(Debug, Drop, Error)]
 #[error("{refusal}")]
 pub struct Refused {
@@ -35,7 +35,8 @@ pub struct Refused {
     pub memory: Vec<u8>,
 }
 
-// The bay that an image was made for: with it, or without a drive and with the memory that came for it.
+/// The bay that an image was made for: with it, or without a drive and with the memory that came
+/// for it.
 pub fn fitted<D: Drive>(made: Result<D, Refused>) -> Bay<D>
     ensures { result ≡ bay_of made }
 {

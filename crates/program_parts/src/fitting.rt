@@ -1,4 +1,4 @@
-// The Winchester that the program keeps its sheet on.
+//! The Winchester that the program keeps its sheet on.
 ghost use Rattle.std.specs.Prelude.{IfOk};
 ghost use Rattle.program_parts.specs.Winchester.{IsBlank};
 
@@ -24,8 +24,8 @@ fn told(heap: Global, why: Refusal) -> anyhow::Result<anyhow::Error> {
     Ok(anyhow!(format!(in heap; "image refused: {number}, {why}")?))
 }
 
-// An image of these measures in its bay, over zeros, or why it is refused. The measures are judged before memory is asked for,
-// since wrong ones may ask for more than there is.
+/// An image of these measures in its bay, over zeros, or why it is refused. The measures are judged
+/// before memory is asked for, since wrong ones may ask for more than there is.
 pub fn winchester(rt: &HostRuntime, geometry: Geometry) -> anyhow::Result<Bay<WinchesterImage>>
     ensures { IfOk result (λ b. IsBlank geometry b) }
 {

@@ -1,4 +1,4 @@
-// The measures of the image.
+//! The measures of the image.
 ghost use Rattle.std.specs.Prelude.{◌≡◌, [], Ok};
 ghost use Rattle.program_parts.specs.Measures.{usual_geometry};
 
@@ -9,8 +9,8 @@ use std::env;
 // What is wrong with words that give no measures.
 const USAGE: &str = "usage: depot [CYLINDERS HEADS CAPACITY] < SHEET, at most 1024 8 65536";
 
-// The measures that words give, which are cylinders, heads and track capacity; where there are no words, 4 cylinders of 2
-// heads with room for 8 sectors of 512 bytes a track.
+/// The measures that words give, which are cylinders, heads and track capacity; where there are no
+/// words, 4 cylinders of 2 heads with room for 8 sectors of 512 bytes a track.
 pub fn geometry_of(words: &[&str]) -> anyhow::Result<Geometry>
     ensures { words.now ≡ [] → result ≡ Ok usual_geometry }
 {
@@ -29,7 +29,7 @@ pub fn geometry_of(words: &[&str]) -> anyhow::Result<Geometry>
     }
 }
 
-// The measures that the program's arguments give.
+/// The measures that the program's arguments give.
 pub fn asked_for(rt: &HostRuntime) -> anyhow::Result<Geometry> {
     let mut args = env::args(rt)?;
     let _program = args.next();

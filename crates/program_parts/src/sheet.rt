@@ -1,4 +1,4 @@
-// The sheet that comes in, and the script's comparison with it.
+//! The sheet that comes in, and the script's comparison with it.
 ghost use Rattle.std.specs.Prelude.{◌≡◌, IfOk, None};
 ghost use Rattle.cue_sheet.specs.Lines.{differing_line};
 
@@ -7,7 +7,7 @@ use cue_sheet::{Comparison, count_lines};
 use std::io;
 use std::io::Read;
 
-// The sheet on standard input.
+/// The sheet on standard input.
 pub fn read_sheet(rt: &HostRuntime) -> io::Result<Vec<u8>> {
     let mut sheet = Vec::new(rt.alloc());
     rt.stdin().read_to_end(&mut sheet)?;
@@ -17,7 +17,8 @@ pub fn read_sheet(rt: &HostRuntime) -> io::Result<Vec<u8>> {
     Ok(sheet)
 }
 
-// Compares the script with the sheet, and tells the first line that differs; that one does is an error.
+/// Compares the script with the sheet, and tells the first line that differs; that one does is an
+/// error.
 pub fn print_comparison(rt: &HostRuntime, sheet: &[u8], script: &[u8]) -> anyhow::Result<()>
     ensures { IfOk result (λ _. differing_line sheet.now script.now ≡ None) }
 {

@@ -1,4 +1,5 @@
-// The parts in use: measures from words, a Winchester of them, the places of records, faults laid over it, and a comparison.
+//! The parts in use: measures from words, a Winchester of them, the places of records, faults laid
+//! over it, and a comparison.
 use super::{Stretch, geometry_of, lay, print_comparison, winchester};
 use drive::Geometry;
 use fault_table::{FaultKind, FaultTable};
@@ -19,7 +20,8 @@ fn measures_from_words(rt: HostRuntime) {
     assert!(rt; geometry_of(&["2", "256", "1024"]).is_err());
 }
 
-// Measures at their ends and past them. The last three would take much memory, and are refused without it.
+// Measures at their ends and past them. The last three would take much memory, and are refused
+// without it.
 #[test]
 fn measures_refused(rt: HostRuntime) {
     for (cylinders, heads, capacity, granted) in [

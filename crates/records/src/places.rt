@@ -1,4 +1,4 @@
-// Where records lie on a drive.
+//! Where records lie on a drive.
 ghost use Rattle.std.specs.Prelude.{◌≡◌, ◌<◌, IfOk, IsErrOf};
 ghost use Rattle.records.specs.Places.{grid_of, records_in, place_of, ArePlaces};
 
@@ -6,18 +6,19 @@ use drive::{Geometry, MOST_SECTORS, Place};
 use std::alloc::{AllocError, AllocFailed, Global};
 use thiserror::Error;
 
-// The bytes of a record, which are those of its sector.
+/// The bytes of a record, which are those of its sector.
 pub const RECORD: usize = 512;
 
-// A drive's cylinders and heads, and how many sectors each track has, numbered from 0.
+/// A drive's cylinders and heads, and how many records each track has, numbered from 0.
 #[derive(Clone, Copy, PartialEq, Eq, Debug)]
 pub struct Grid {
     pub cylinders: u16,
     pub heads: u8,
+    /// At most 64.
     pub sectors: u8,
 }
 
-// Why records have no places.
+/// Why records have no places.
 #[derive(Debug, Drop, Error)]
 pub enum PlacesError {
     #[error("the sheet is longer than the drive")]
@@ -26,7 +27,6 @@ pub enum PlacesError {
     OutOfMemory,
 }
 
-// A conversion that is derived says nothing to a clause, so these are written out.
 impl From<AllocError> for PlacesError {
     ghost use Rattle.records.specs.declared.places.PlacesError.TheVariants.{OutOfMemory};
 
@@ -61,7 +61,8 @@ impl From<Geometry> for Grid {
 }
 
 impl Grid {
-    // The place of a record: sector by sector, then head by head, then cylinder by cylinder.
+    /// The place of a record, counted from 0 sector by sector, then head by head, then cylinder by
+    /// cylinder; `None` past the last.
     pub fn place(self, index: usize) -> Option<Place>
         ensures { result ≡ place_of self index }
     {
@@ -80,7 +81,7 @@ impl Grid {
         })
     }
 
-    // The places of the first so many records, in order. Each is worked out of the record's number: there is no list to go over.
+    /// The places of the first so many records, in order.
     pub fn places(self, heap: Global, records: usize) -> Result<Vec<Place>, PlacesError>
         ensures places { IfOk result (λ v. ArePlaces self records v.items) }
         ensures too_long { IsErrOf result PlacesError.TooLong → records_in self < records }

@@ -1,9 +1,10 @@
-// The script read stays the sheet written: the theorem over whole histories of calls on a controller, from the making of it
-// on, over all drives.
-//
-// Promised here: what is read is what was last written, or the controller says that it could not be read; a read is clean
-// exactly when it can be; no call changes a sector but the one that it writes, or those of the track that it formats; and BUSY
-// goes off. Every make's drives are under it, and an example meets its premises.
+//! The script read stays the sheet written: the theorem over whole histories of calls on a
+//! controller, from the making of it on, over all drives.
+//!
+//! Promised here: what is read is what was last written, or the controller says that it could not
+//! be read; a read is clean exactly when it can be; no call changes a sector but the one that it
+//! writes, or those of the track that it formats; and BUSY goes off. Every make's drives are under
+//! it, and an example meets its premises.
 #![tactic(auto)]
 
 mod running;

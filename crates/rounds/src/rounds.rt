@@ -1,4 +1,4 @@
-// Rounds of a host at a controller.
+//! Rounds of a host at a controller.
 ghost use Rattle.std.specs.Prelude.{◌≡◌, ◌%◌};
 ghost use Rattle.controller.specs.Model.{model_of};
 ghost use Rattle.rounds.specs.Rounds.{heard, sector_read, sector_written, refused, ready, reads, writes, refusals, both_refusals};
@@ -29,7 +29,8 @@ fn read_sector<W: Drive, F: Drive>(
     number: u8,
     start: u32,
 ) -> u32
-    ensures { heard (model_of W.meaning F.meaning controller.new) result ≡ sector_read turns number (heard (model_of W.meaning F.meaning controller.old) start) }
+    ensures { heard (model_of W.meaning F.meaning controller.new) result
+        ≡ sector_read turns number (heard (model_of W.meaning F.meaning controller.old) start) }
 {
     let named = write(controller, u8::from(Register::Number), number, start);
     let begun = write(controller, u8::from(Register::Status), READ, named);
@@ -44,7 +45,8 @@ fn write_sector<W: Drive, F: Drive>(
     number: u8,
     start: u32,
 ) -> u32
-    ensures { heard (model_of W.meaning F.meaning controller.new) result ≡ sector_written number (heard (model_of W.meaning F.meaning controller.old) start) }
+    ensures { heard (model_of W.meaning F.meaning controller.new) result
+        ≡ sector_written number (heard (model_of W.meaning F.meaning controller.old) start) }
 {
     let named = write(controller, u8::from(Register::Number), number, start);
     let begun = write(controller, u8::from(Register::Status), WRITE, named);
@@ -55,7 +57,8 @@ fn write_sector<W: Drive, F: Drive>(
 
 // Five accesses that are refused while BUSY is on or bytes are offered.
 fn refuse<W: Drive, F: Drive>(controller: &mut Controller<W, F>, start: u32) -> u32
-    ensures { heard (model_of W.meaning F.meaning controller.new) result ≡ refused (heard (model_of W.meaning F.meaning controller.old) start) }
+    ensures { heard (model_of W.meaning F.meaning controller.new) result
+        ≡ refused (heard (model_of W.meaning F.meaning controller.old) start) }
 {
     let mut sum = read(controller, NO_REGISTER, start);
     sum = write(controller, NO_REGISTER, 1, sum);
@@ -66,16 +69,18 @@ fn refuse<W: Drive, F: Drive>(controller: &mut Controller<W, F>, start: u32) -> 
 
 // Ends the first Test, and sets SDH.
 fn make_ready<W: Drive, F: Drive>(controller: &mut Controller<W, F>, start: u32) -> u32
-    ensures { heard (model_of W.meaning F.meaning controller.new) result ≡ ready (heard (model_of W.meaning F.meaning controller.old) start) }
+    ensures { heard (model_of W.meaning F.meaning controller.new) result
+        ≡ ready (heard (model_of W.meaning F.meaning controller.old) start) }
 {
     controller.turn();
     write(controller, u8::from(Register::Sdh), SDH, start)
 }
 
-// Reads the sectors 0 to 7 in turn, so many in all; so it does with any controller, and with one that is made now it reads.
+/// Reads the sectors 0 to 7 in turn, so many in all, each with so many turns.
 #[tactic(auto, using(crate::proofs::Repeated::more), unfolding(crate::specs::Rounds::reads))]
 pub fn reads<W: Drive, F: Drive>(controller: &mut Controller<W, F>, turns: u8, rounds: u32) -> u32
-    ensures { heard (model_of W.meaning F.meaning controller.new) result ≡ reads turns rounds (heard (model_of W.meaning F.meaning controller.old) 0) }
+    ensures { heard (model_of W.meaning F.meaning controller.new) result
+        ≡ reads turns rounds (heard (model_of W.meaning F.meaning controller.old) 0) }
 {
     let mut sum = make_ready(controller, 0);
     for round in 0..rounds {
@@ -84,10 +89,11 @@ pub fn reads<W: Drive, F: Drive>(controller: &mut Controller<W, F>, turns: u8, r
     sum
 }
 
-// Writes the sectors 0 to 7 in turn, so many in all.
+/// Writes the sectors 0 to 7 in turn, so many in all.
 #[tactic(auto, using(crate::proofs::Repeated::more), unfolding(crate::specs::Rounds::writes))]
 pub fn writes<W: Drive, F: Drive>(controller: &mut Controller<W, F>, rounds: u32) -> u32
-    ensures { heard (model_of W.meaning F.meaning controller.new) result ≡ writes rounds (heard (model_of W.meaning F.meaning controller.old) 0) }
+    ensures { heard (model_of W.meaning F.meaning controller.new) result
+        ≡ writes rounds (heard (model_of W.meaning F.meaning controller.old) 0) }
 {
     let mut sum = make_ready(controller, 0);
     for round in 0..rounds {
@@ -102,7 +108,8 @@ fn refuse_often<W: Drive, F: Drive>(
     rounds: u32,
     start: u32,
 ) -> u32
-    ensures { heard (model_of W.meaning F.meaning controller.new) result ≡ refusals rounds (heard (model_of W.meaning F.meaning controller.old) start) }
+    ensures { heard (model_of W.meaning F.meaning controller.new) result
+        ≡ refusals rounds (heard (model_of W.meaning F.meaning controller.old) start) }
 {
     let mut sum = start;
     for _round in 0..rounds {
@@ -111,10 +118,13 @@ fn refuse_often<W: Drive, F: Drive>(
     sum
 }
 
-// Accesses that are refused: first while BUSY is on, and then as many while the bytes of a sector are offered.
-#[tactic(auto, using(crate::proofs::Repeated::more), unfolding(crate::specs::Rounds::both_refusals))]
+/// Accesses that are refused: first while BUSY is on, and then as many while the bytes of a sector
+/// are offered.
+#[tactic(auto, using(crate::proofs::Repeated::more), // one round more
+unfolding(crate::specs::Rounds::both_refusals))]
 pub fn refusals<W: Drive, F: Drive>(controller: &mut Controller<W, F>, rounds: u32) -> u32
-    ensures { heard (model_of W.meaning F.meaning controller.new) result ≡ both_refusals rounds (heard (model_of W.meaning F.meaning controller.old) 0) }
+    ensures { heard (model_of W.meaning F.meaning controller.new) result
+        ≡ both_refusals rounds (heard (model_of W.meaning F.meaning controller.old) 0) }
 {
     let busy = refuse_often(controller, rounds, 0);
     let set = make_ready(controller, busy);

@@ -1,11 +1,11 @@
-// The four sector sizes and the codes that name them.
+//! The four sector sizes and the codes that name them.
 ghost use Rattle.std.specs.Prelude.{◌≡◌};
 ghost use Rattle.std.specs.Result.{result_ok};
 ghost use Rattle.sector.specs.Sizes.{bytes_of, number_of, size_with, size_numbered};
 
 use thiserror::Error;
 
-// A size code, by the bytes that a sector of it has.
+/// A sector size; its number is its size code.
 #[derive(Clone, Copy, PartialEq, Eq, Debug)]
 pub enum SizeCode {
     Bytes256 = 0,
@@ -14,7 +14,7 @@ pub enum SizeCode {
     Bytes128 = 3,
 }
 
-// A number that names no size.
+/// A number that names no size.
 #[derive(Clone, Copy, PartialEq, Eq, Debug, Error)]
 #[error("no sector size has this code")]
 pub struct NoSuchSize;
@@ -45,8 +45,7 @@ impl From<SizeCode> for u8 {
 }
 
 impl SizeCode {
-    // The size of a sector that has so many bytes, if sectors come in it. A conversion from a length would look like the one
-    // from a number, and differ only in the integer's width; so this has a name.
+    /// The size of a sector of so many bytes, or `None` where no sector has this length.
     pub fn from_length(length: usize) -> Option<SizeCode>
         ensures { result ≡ size_with length }
     {
@@ -59,7 +58,7 @@ impl SizeCode {
         }
     }
 
-    // How many bytes a sector of this size has.
+    /// How many bytes a sector of this size has.
     pub fn bytes(self) -> usize
         ensures { result ≡ bytes_of self }
     {

@@ -1,10 +1,11 @@
-// Wrong bits, and inverting them.
+//! Wrong bits, and inverting them.
 ghost use Rattle.std.specs.Prelude.{◌≡◌, ◌+◌, nat_eq};
 ghost use Rattle.sector.specs.Bits.{inverted, marked, from_bit};
 
 use std::fmt;
 
-// A burst by its first bit, counted from the top bit of the sector's first byte, and a pattern whose bit i marks bit first + i.
+/// A burst by its first bit, counted from the top bit of the sector's first byte on, and a pattern
+/// whose bit i marks bit first + i.
 #[derive(Clone, Copy, PartialEq, Eq, Debug)]
 pub struct Burst {
     pub first: u16,
@@ -31,7 +32,7 @@ fn invert_bit(part: &mut [u8], start: usize, bit: usize)
     }
 }
 
-// Inverts those bits of a burst that lie in `part`, the sector's bytes from bit `start` on.
+/// Inverts those bits of a burst that lie in `part`, the sector's bytes from bit `start` on.
 pub fn invert_burst(part: &mut [u8], start: u16, burst: Burst)
     ensures { part.new ≡ inverted (from_bit start (marked burst.first burst.pattern)) part.old }
 {

@@ -1,4 +1,4 @@
-// What comes of an attempt at a sector, and of a format.
+//! What comes of an attempt at a sector, and of a format.
 ghost use Rattle.std.specs.Prelude.{◌≡◌, ℕ, ◌+◌, ◌≤◌, take};
 ghost use Rattle.sector.specs.Sizes.{bytes_of};
 ghost use Rattle.task_file.specs.Registers.{size_at, mode_at};
@@ -17,12 +17,12 @@ use std::array;
 // How often a sector is tried.
 const TRIES: u8 = 9;
 
-// What is done about a read attempt.
+/// What is done about a read attempt.
 #[derive(Clone, Copy)]
 pub enum Verdict {
     Take,
     Correct(u32),
-    // Another attempt, with the difference that it is compared with.
+    /// Another attempt, with the difference that it is compared with.
     Retry(Option<u32>),
     Fail(SectorError),
     Abort,
@@ -46,8 +46,8 @@ fn retried(attempts: u8, previous: Option<u32>, error: SectorError) -> Verdict
     }
 }
 
-// Judges what an attempt showed, by the attempts made before it and the difference of the one just before. What was delivered
-// shows a difference, unless it is not judged.
+// Judges what an attempt showed, by the attempts made before it and the difference of the one just
+// before. What was delivered shows a difference, unless it is not judged.
 fn verdict_on(
     mode: CheckMode,
     attempts: u8,
@@ -70,7 +70,7 @@ fn verdict_on(
 }
 
 impl Registers {
-    // The sector that the registers name, under a head.
+    /// The sector that the registers name, under a head.
     pub fn address(self, head: u8) -> SectorAddress
         ensures { result ≡ address_under self head }
     {
@@ -98,7 +98,8 @@ impl Registers {
     }
 }
 
-// What an attempt showed, by its answer and what it left in the buffer: where L is 1 it is not judged.
+// What an attempt showed, by its answer and what it left in the buffer: where L is 1 it is not
+// judged.
 fn outcome_of(
     answer: Result<(), ReadError>,
     long: bool,
@@ -115,7 +116,7 @@ fn outcome_of(
     Ok(Some(mode.difference(buffer.sector(size), buffer.check)))
 }
 
-// Inverts a burst in the sector's bytes. No call can lend a part of the buffer's array for writing, so size and part are here.
+// Inverts a burst in the sector's bytes.
 fn mend_buffer(buffer: &mut SectorBuffer, size: SizeCode, burst: Burst)
     ensures { buffer.new ≡ mended_buffer (bytes_of size) burst buffer.old }
 {
@@ -174,7 +175,7 @@ impl State {
         }
     }
 
-    // Does what a verdict says. The job began with its command; the head comes from SDH at each turn.
+    // Does what a verdict says, at a sector under a head.
     fn follow(&mut self, verdict: Verdict, job: ReadJob, head: u8)
         ensures { self.new ≡ read_by verdict self.old job head }
     {
@@ -200,7 +201,7 @@ impl State {
         }
     }
 
-    // Judges a read attempt by its answer and what it delivered into the buffer.
+    /// Judges a read attempt by its answer and what it delivered into the buffer.
     #[tactic(auto, unfolding(crate::specs::Attempts::read_judged))]
     pub fn judge_read(&mut self, answer: Result<(), ReadError>, job: ReadJob, head: u8)
         ensures { self.new ≡ read_judged answer self.old job head }
@@ -226,7 +227,7 @@ impl State {
         self.end();
     }
 
-    // Judges a write attempt by its answer. A write has no difference to keep, so its next attempt is no `retried` read's.
+    /// Judges a write attempt by its answer.
     pub fn judge_write(&mut self, answer: Result<(), WriteError>, job: WriteJob, head: u8)
         ensures { self.new ≡ write_judged answer self.old job head }
     {
@@ -249,7 +250,7 @@ impl State {
         }
     }
 
-    // Judges a format by its answer.
+    /// Judges a format by its answer.
     pub fn judge_format(&mut self, answer: Result<(), FormatError>)
         ensures { self.new ≡ format_judged answer self.old }
     {
@@ -263,8 +264,8 @@ impl State {
     }
 }
 
-// The sectors that the pairs of a format's bytes give: mark, then number. There is no heap for a list of just those that are
-// meant, so all that a track can have are given.
+/// The sectors that the pairs of a format's bytes give, mark then number: all 64 that a track can
+/// have.
 pub fn format_ids(bytes: &[u8; 1024]) -> [SectorId; 64]
     ensures { (n : ℕ) → n ≤ 64 → take n result ≡ ids_of bytes.now n }
 {
@@ -274,7 +275,7 @@ pub fn format_ids(bytes: &[u8; 1024]) -> [SectorId; 64]
     })
 }
 
-// The check bytes of a sector of zeros.
+/// The check bytes of a sector of zeros.
 pub fn zero_check(mode: CheckMode, size: SizeCode) -> [u8; 4]
     ensures { result ≡ zero_check mode size }
 {

@@ -1,4 +1,4 @@
-// The beginning of a command.
+//! The beginning of a command.
 ghost use Rattle.std.specs.Prelude.{◌≡◌};
 ghost use Rattle.task_file.specs.Beginning.{first_phase, registers_for, begun};
 
@@ -37,7 +37,8 @@ fn registers_for(command: Command, registers: Registers) -> Registers
 }
 
 impl State {
-    // An accepted command: flags, failure and line are cleared, what was moving is dropped, and it begins or is aborted.
+    /// An accepted command: flags, failure and line are cleared, what was moving is dropped, and it
+    /// begins or is aborted.
     #[tactic(auto, unfolding(crate::specs::Beginning::begun))]
     pub fn begin(&mut self, command: Command, view: Option<DriveView>)
         ensures { self.new ≡ begun self.old command view }

@@ -1,30 +1,32 @@
-// The commands, and the bytes that give them.
+//! The commands, and the bytes that give them.
 ghost use Rattle.std.specs.Prelude.{◌≡◌, ◌<◌};
 ghost use Rattle.std.specs.Result.{result_ok};
 ghost use Rattle.task_file.specs.Commands.{has_bit, read_given, write_given, command_of, writes, is_long};
 
 use thiserror::Error;
 
-// How a read goes.
+/// How a read goes.
 #[derive(Clone, Copy)]
 pub struct ReadMode {
-    // D: the interrupt comes once the last byte is drawn, and not with the last sector's data request.
+    /// D: the interrupt comes once the last byte is drawn, and not with the last sector's data
+    /// request.
     pub dma: bool,
-    // M: sector after sector, until the count is 0.
+    /// M: sector after sector, until the count is 0.
     pub multiple: bool,
-    // L: the check bytes are handed over too, unjudged.
+    /// L: the check bytes are handed over too, unjudged.
     pub long: bool,
 }
 
-// How a write goes.
+/// How a write goes.
 #[derive(Clone, Copy)]
 pub struct WriteMode {
-    // M: sector after sector, until the count is 0.
+    /// M: sector after sector, until the count is 0.
     pub multiple: bool,
-    // L: the host gives the check bytes too.
+    /// L: the host gives the check bytes too.
     pub long: bool,
 }
 
+/// A command that the controller accepts.
 #[derive(Clone, Copy)]
 pub enum Command {
     Test,
@@ -35,7 +37,7 @@ pub enum Command {
     Format,
 }
 
-// The error of a byte that gives no command.
+/// The error of a byte that gives no command.
 #[derive(Clone, Copy, PartialEq, Eq, Debug, Error)]
 #[error("the byte gives no command")]
 pub struct NoSuchCommand;
@@ -80,7 +82,8 @@ impl TryFrom<u8> for Command {
 
     ghost try_from_gives = { λ byte made. result_ok made ≡ command_of byte };
 
-    // The command that a byte gives, if it is accepted: its upper four bits say which, and of some its lower ones how.
+    // The command that a byte gives, if it is accepted: its upper four bits say which, and of some
+    // its lower ones how.
     #[tactic(auto, unfolding(crate::specs::Commands::command_of))]
     fn try_from(byte: u8) -> Result<Command, NoSuchCommand> {
         match byte / 16 {
@@ -96,14 +99,14 @@ impl TryFrom<u8> for Command {
 }
 
 impl Command {
-    // Whether it is Write or Format.
+    /// Whether it is Write or Format.
     pub fn writes(self) -> bool
         ensures { result ≡ writes self }
     {
         matches!(self, Command::Write(_) | Command::Format)
     }
 
-    // Whether its L is 1; only reads and writes have one.
+    /// Whether its L is 1; only reads and writes have one.
     pub fn is_long(self) -> bool
         ensures { result ≡ is_long self }
     {

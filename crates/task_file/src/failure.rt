@@ -1,10 +1,10 @@
-// Why a command failed, and where.
+//! Why a command failed, and where.
 ghost use Rattle.std.specs.Prelude.{◌≡◌};
 ghost use Rattle.task_file.specs.Failures.{sector_error_bit, error_bit, layer_of, layer_number, fault_of};
 
 use drive::Place;
 
-// What an attempt at a sector can fail for, by its bit of the error register.
+/// What an attempt at a sector can fail for, by its bit of the error register.
 #[derive(Clone, Copy, PartialEq, Eq, Debug)]
 pub enum SectorError {
     BadBlock = 0x80,
@@ -13,24 +13,25 @@ pub enum SectorError {
     NoDataMark = 0x01,
 }
 
-// A failure at a sector: the attempts made at its place count those of this command.
+/// A failure at a sector: the attempts made at its place count those of this command.
 #[derive(Clone, Copy)]
 pub struct SectorFailure {
     pub error: SectorError,
     pub place: Place,
+    /// From 1 to 9.
     pub attempts: u8,
 }
 
-// Why a command failed.
+/// Why a command failed.
 #[derive(Clone, Copy)]
 pub enum Failure {
     Aborted,
-    // Restore did not find cylinder 0.
+    /// Restore did not find cylinder 0.
     TrackZero,
     Sector(SectorFailure),
 }
 
-// The layer that a failure came from, by its number.
+/// The layer that a failure came from, by its number.
 #[derive(Clone, Copy)]
 pub enum Layer {
     Controller = 1,
@@ -38,8 +39,9 @@ pub enum Layer {
     CheckCode = 3,
 }
 
-// The last fault, as numbers: the layer, the error register, the place, and the attempts made there.
-// It stays a flat record of plain numbers, which programs and tests take apart.
+/// The last fault, as plain numbers: the layer (1 controller, 2 drive, 3 check code), the error
+/// register, the place, and the attempts made there, at most 9. In layer 1 place and attempts are
+/// 0.
 #[derive(Clone, Copy, PartialEq, Eq, Debug, Default)]
 pub struct Fault {
     pub layer: u8,
@@ -51,7 +53,7 @@ pub struct Fault {
 }
 
 impl SectorError {
-    // Its bit of the error register.
+    /// Its bit of the error register.
     pub fn bit(self) -> u8
         ensures { result ≡ sector_error_bit self }
     {
@@ -69,7 +71,7 @@ impl From<Layer> for u8 {
 }
 
 impl Failure {
-    // Its bit of the error register. The third case has another's error in it, so the bits are no discriminants.
+    /// Its bit of the error register.
     pub fn bit(self) -> u8
         ensures { result ≡ error_bit self }
     {
@@ -80,7 +82,7 @@ impl Failure {
         }
     }
 
-    // The layer that it came from.
+    /// The layer that it came from.
     pub fn layer(self) -> Layer
         ensures { result ≡ layer_of self }
     {

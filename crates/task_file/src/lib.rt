@@ -1,8 +1,8 @@
-// The controller without its drives: the registers and what they say, the commands, the phase, the lines, the buffer, and
-// the last failure.
-//
-// Promised here: what each register and command byte means, which commands are aborted, what every byte that moves does,
-// and what comes of each attempt, as one definition for every state.
+//! The controller without its drives: the registers and what they say, the commands, the phase, the
+//! lines, the buffer, and the last failure.
+//!
+//! Promised here: what each register and command byte means, which commands are aborted, what every
+//! byte that moves does, and what comes of each attempt, as one definition for every state.
 #![tactic(auto)]
 
 mod attempts;

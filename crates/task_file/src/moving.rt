@@ -1,4 +1,4 @@
-// Bytes that move between the host and the buffer.
+//! Bytes that move between the host and the buffer.
 ghost use Rattle.std.specs.Prelude.{◌≡◌, ◌+◌, cond, Some, None};
 ghost use Rattle.sector.specs.Sizes.{bytes_of};
 ghost use Rattle.task_file.specs.Registers.{size_at};
@@ -17,7 +17,8 @@ fn moved_length(size: SizeCode, long: bool) -> u16
     if long { bytes + 4 } else { bytes }
 }
 
-// The byte of the buffer that moves at a place: the sector's bytes first, as many as the size says, then the check bytes.
+// The byte of the buffer that moves at a place: the sector's bytes first, as many as the size says,
+// then the check bytes.
 fn byte_at(buffer: &SectorBuffer, size: SizeCode, at: u16) -> u8
     ensures { result ≡ byte_at buffer.now (bytes_of size) at }
 {
@@ -29,8 +30,8 @@ fn byte_at(buffer: &SectorBuffer, size: SizeCode, at: u16) -> u8
     buffer.check.get(at - bytes).copied().unwrap_or(0)
 }
 
-// Puts a byte into the buffer at a place. What a write through `get_mut` leaves is not known to a proof, so it is by index;
-// where the place lies is worked out as in `byte_at`, in two lines that a type for it would not shorten.
+// Puts a byte into the buffer at a place, counted as in `byte_at`; past the check bytes it is
+// dropped.
 fn put_at(buffer: &mut SectorBuffer, size: SizeCode, at: u16, byte: u8)
     ensures { buffer.new ≡ with_byte buffer.old (bytes_of size) at byte }
 {
@@ -44,7 +45,8 @@ fn put_at(buffer: &mut SectorBuffer, size: SizeCode, at: u16, byte: u8)
 }
 
 impl State {
-    // The last byte offered was drawn: the next sector of a multiple read begins, or the read is over.
+    // The last byte offered was drawn: the next sector of a multiple read begins, or the read is
+    // over.
     fn finish_drawing(&mut self, mode: ReadMode)
         ensures { self.new ≡ all_drawn self.old mode }
     {
@@ -58,7 +60,7 @@ impl State {
         }
     }
 
-    // The byte that is offered goes out; where none is, 0 does.
+    /// The byte that is offered goes out; where none is, 0 does.
     #[inline(never)]
     #[tactic(auto, unfolding(crate::specs::Moving::drawn))]
     pub fn draw(&mut self) -> u8
@@ -78,12 +80,17 @@ impl State {
         byte
     }
 
-    // The byte that is offered goes out, if it stands before the sector's last: then nothing but the place changes.
+    /// The byte that is offered goes out, if it stands before the sector's last: then nothing but
+    /// the place changes.
     #[inline]
     #[tactic(auto, unfolding(crate::specs::Moving::drawn))]
     pub fn draw_inside(&mut self) -> Option<u8>
-        ensures byte { result ≡ cond (offers_inside self.old.phase self.old) (Some (offered_in self.old.phase self.old)) None }
-        ensures after { self.new ≡ cond (offers_inside self.old.phase self.old) (drawn_in self.old.phase self.old) self.old }
+        ensures byte { result
+            ≡ cond (offers_inside self.old.phase self.old)
+            (Some (offered_in self.old.phase self.old)) None }
+        ensures after { self.new
+            ≡ cond (offers_inside self.old.phase self.old)
+            (drawn_in self.old.phase self.old) self.old }
     {
         let last = self.registers.size().bytes() - 1;
         if let Phase::Offering(_, at) = &mut self.phase {
@@ -119,7 +126,7 @@ impl State {
         }
     }
 
-    // A byte comes in; where none is asked for, it is dropped.
+    /// A byte comes in; where none is asked for, it is dropped.
     #[inline(never)]
     #[tactic(auto, unfolding(crate::specs::Moving::put))]
     pub fn put(&mut self, byte: u8)
@@ -137,12 +144,15 @@ impl State {
         }
     }
 
-    // A byte comes in, if it goes before the sector's last: then nothing but the buffer and the place changes.
+    /// A byte comes in, if it goes before the sector's last: then nothing but the buffer and the
+    /// place changes.
     #[inline]
     #[tactic(auto, unfolding(crate::specs::Moving::put))]
     pub fn put_inside(&mut self, byte: u8) -> bool
         ensures answer { result ≡ takes_inside self.old.phase self.old }
-        ensures after { self.new ≡ cond (takes_inside self.old.phase self.old) (put_in self.old.phase self.old byte) self.old }
+        ensures after { self.new
+            ≡ cond (takes_inside self.old.phase self.old)
+            (put_in self.old.phase self.old byte) self.old }
     {
         let last = self.registers.size().bytes() - 1;
         if let Phase::Taking(_, at) = &mut self.phase {

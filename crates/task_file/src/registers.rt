@@ -1,4 +1,4 @@
-// The eight registers, and what those that the host writes say.
+//! The eight registers, and what those that the host writes say.
 ghost use Rattle.std.specs.Prelude.{◌≡◌};
 ghost use Rattle.std.specs.Result.{result_ok};
 ghost use Rattle.task_file.specs.Registers.{register_number, register_numbered, cylinder_of, size_at, mode_at, selected, next_sector, sector_count, stored};
@@ -7,41 +7,46 @@ use check_code::CheckMode;
 use sector::SizeCode;
 use thiserror::Error;
 
-// A register, by its number.
+/// A register, by its number.
 #[derive(Clone, Copy)]
 pub enum Register {
     Data = 0,
     Error = 1,
-    // Sector count.
+    /// Sector count.
     Count = 2,
-    // Sector number.
+    /// Sector number.
     Number = 3,
-    // Cylinder low.
+    /// Cylinder low.
     Low = 4,
-    // Cylinder high.
+    /// Cylinder high.
     High = 5,
-    // Size, drive and head.
+    /// Size, drive and head.
     Sdh = 6,
-    // Status when read and command when written.
+    /// Status when read and command when written.
     Status = 7,
 }
 
-// The error of a number that no register has.
+/// The error of a number that no register has.
 #[derive(Clone, Copy, PartialEq, Eq, Debug, Error)]
 #[error("no register has this number")]
 pub struct NoSuchRegister;
 
-// The registers that keep what the host writes; all are 0 at first.
+/// The registers that keep what the host writes, whole; all are 0 at first.
 #[derive(Clone, Copy, Default)]
 pub struct Registers {
+    /// Sector count; 0 stands for 256.
     pub count: u8,
+    /// Sector number.
     pub number: u8,
+    /// Cylinder low.
     pub low: u8,
+    /// Cylinder high, of which only bits 1 and 0 count.
     pub high: u8,
+    /// Bit 7 check code, bits 6 and 5 size code, bits 4 to 0 drive and head.
     pub sdh: u8,
 }
 
-// A drive that SDH can select, with the head on it.
+/// A drive that SDH can select, with the head on it.
 #[derive(Clone, Copy)]
 pub enum Selection {
     Winchester(u8),
@@ -79,21 +84,21 @@ impl From<Register> for u8 {
 }
 
 impl Registers {
-    // The cylinder: the low byte, and bits 1 and 0 of the high byte above it.
+    /// The cylinder, from 0 to 1,023: the low byte, and bits 1 and 0 of the high byte above it.
     pub fn cylinder(self) -> u16
         ensures { result ≡ cylinder_of self }
     {
         u16::from_be_bytes([self.high % 4, self.low])
     }
 
-    // The sector size, in bits 6 and 5 of SDH.
+    /// The sector size, in bits 6 and 5 of SDH.
     pub fn size(self) -> SizeCode
         ensures { result ≡ size_at self.sdh }
     {
         SizeCode::try_from(self.sdh / 32 % 4).unwrap()
     }
 
-    // The check code, in bit 7 of SDH.
+    /// The check code, in bit 7 of SDH.
     pub fn mode(self) -> CheckMode
         ensures { result ≡ mode_at self.sdh }
     {
@@ -104,7 +109,7 @@ impl Registers {
         }
     }
 
-    // The drive and the head, in bits 4 to 0 of SDH, if they select a drive.
+    /// The drive and the head, in bits 4 to 0 of SDH, if they select a drive.
     pub fn selection(self) -> Option<Selection>
         ensures { result ≡ selected self.sdh }
     {
@@ -115,7 +120,7 @@ impl Registers {
         }
     }
 
-    // How many sectors the count stands for: 0 is 256.
+    /// How many sectors the count stands for, from 1 to 256: 0 is 256.
     pub fn sectors(self) -> u16
         ensures { result ≡ sector_count self }
     {
@@ -126,7 +131,7 @@ impl Registers {
         }
     }
 
-    // One sector fewer, and the next number.
+    /// One sector fewer, and the next number, both modulo 256.
     pub fn advance(&mut self)
         ensures { self.new ≡ next_sector self.old }
     {
@@ -134,7 +139,7 @@ impl Registers {
         self.number = self.number.wrapping_add(1);
     }
 
-    // Keeps a byte that the host writes; one for another register is dropped.
+    /// Keeps a byte that the host writes; one for another register is dropped.
     pub fn store(&mut self, register: Register, byte: u8)
         ensures { self.new ≡ stored self.old register byte }
     {

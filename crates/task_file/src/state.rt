@@ -1,4 +1,4 @@
-// The state of the controller without its drives.
+//! The state of the controller without its drives.
 ghost use Rattle.std.specs.Prelude.{◌≡◌};
 ghost use Rattle.task_file.specs.State.{first_read, cleared, fresh, reset, ended, failed};
 
@@ -7,10 +7,12 @@ use super::failure::Failure;
 use super::registers::Registers;
 use drive::SectorBuffer;
 
-// A read under way: the attempts made at its sector so far, and the difference of the one just before, if that was nonzero.
+/// A read under way: the attempts made at its sector so far, and the difference of the one just
+/// before, if that was nonzero.
 #[derive(Clone, Copy)]
 pub struct ReadJob {
     pub mode: ReadMode,
+    /// From 0 to 8.
     pub attempts: u8,
     pub previous: Option<u32>,
 }
@@ -28,18 +30,19 @@ impl ReadJob {
     }
 }
 
-// A write under way: the attempts made at its sector so far.
+/// A write under way: the attempts made at its sector so far.
 #[derive(Clone, Copy)]
 pub struct WriteJob {
     pub mode: WriteMode,
+    /// From 0 to 8.
     pub attempts: u8,
 }
 
-// What the controller is busy with.
+/// What the controller is busy with.
 #[derive(Clone, Copy)]
 pub enum Job {
     Test,
-    // The steps made so far.
+    /// The steps made so far.
     Restore(u16),
     Seek,
     Read(ReadJob),
@@ -47,14 +50,14 @@ pub enum Job {
     Format,
 }
 
-// What the bytes that the host gives are for.
+/// What the bytes that the host gives are for.
 #[derive(Clone, Copy)]
 pub enum Load {
     Sector(WriteMode),
     Track,
 }
 
-// The controller is at rest, busy, or moving bytes one way: then it counts those that have moved.
+/// The controller is at rest, busy, or moving bytes one way: then it counts those that have moved.
 #[derive(Clone, Copy)]
 pub enum Phase {
     Rest,
@@ -63,24 +66,24 @@ pub enum Phase {
     Taking(Load, u16),
 }
 
-// Registers, failure, flags, line, phase and buffer.
+/// Registers, failure, flags, line, phase and buffer.
 #[derive(Clone, Copy)]
 pub struct State {
     pub registers: Registers,
-    // Why the last command failed, if it did: the error register and the Error bit follow from it.
+    /// Why the last command failed, if it did: the error register and the Error bit follow from it.
     pub failure: Option<Failure>,
-    // A sector of the last command was corrected.
+    /// A sector of the last command was corrected.
     pub corrected: bool,
-    // The protection note: a Write or Format was aborted on a protected floppy.
+    /// The protection note: a Write or Format was aborted on a protected floppy.
     pub note: bool,
-    // The interrupt line.
+    /// The interrupt line.
     pub intrq: bool,
     pub phase: Phase,
     pub buffer: SectorBuffer,
 }
 
 impl State {
-    // The state of a controller that is made now: it tests itself.
+    /// The state of a controller that is made now: it tests itself.
     pub fn new() -> State
         ensures { result ≡ fresh }
     {
@@ -95,7 +98,8 @@ impl State {
         }
     }
 
-    // Failure, flags and line are cleared, and what was moving is dropped; only the buffer stays, beside these registers.
+    // Failure, flags and line are cleared, and what was moving is dropped; only the buffer stays,
+    // beside these registers.
     pub(super) fn clear(&mut self, registers: Registers)
         ensures { self.new ≡ cleared registers self.old.buffer }
     {
@@ -107,7 +111,7 @@ impl State {
         self.phase = Phase::Rest;
     }
 
-    // Registers, failure, flags and line are cleared, and Test begins; only the buffer stays.
+    /// Registers, failure, flags and line are cleared, and Test begins; only the buffer stays.
     pub fn reset(&mut self)
         ensures { self.new ≡ reset self.old }
     {
@@ -115,7 +119,7 @@ impl State {
         self.phase = Phase::Busy(Job::Test);
     }
 
-    // The command ends.
+    /// The command ends.
     pub fn end(&mut self)
         ensures { self.new ≡ ended self.old }
     {
@@ -123,7 +127,7 @@ impl State {
         self.intrq = true;
     }
 
-    // The command ends with a failure.
+    /// The command ends with a failure.
     pub fn fail(&mut self, failure: Failure)
         ensures { self.new ≡ failed self.old failure }
     {

@@ -1,4 +1,5 @@
-// What the host can ask of the state: the status, the error register, the other registers, the lines, the last fault.
+//! What the host can ask of the state: the status, the error register, the other registers, the
+//! lines, the last fault.
 ghost use Rattle.std.specs.Prelude.{◌≡◌};
 ghost use Rattle.task_file.specs.Failures.{error_byte, last_fault};
 ghost use Rattle.task_file.specs.State.{is_busy, requests};
@@ -9,14 +10,14 @@ use super::state::{Phase, State};
 use super::view::DriveView;
 
 impl Phase {
-    // BUSY.
+    /// BUSY: a command is under way.
     pub fn is_busy(self) -> bool
         ensures { result ≡ is_busy self }
     {
         matches!(self, Phase::Busy(_))
     }
 
-    // DRQ, the data request.
+    /// DRQ, the data request: bytes move one way.
     pub fn requests(self) -> bool
         ensures { result ≡ requests self }
     {
@@ -25,7 +26,7 @@ impl Phase {
 }
 
 impl State {
-    // The status, with the drive that SDH selects now, if it selects one.
+    /// The status, with the drive that SDH selects now, if it selects one.
     pub fn status(&self, view: Option<DriveView>) -> u8
         ensures { result ≡ status_of self.now view }
     {
@@ -41,14 +42,14 @@ impl State {
             + u8::from(self.failure.is_some())
     }
 
-    // The error register: 0 without a failure.
+    /// The error register: 0 without a failure.
     pub fn error(&self) -> u8
         ensures { result ≡ error_byte self.now.failure }
     {
         self.failure.map_or(0, |failure| failure.bit())
     }
 
-    // The last fault: absent whenever Error is off.
+    /// The last fault: absent whenever Error is off.
     pub fn last_fault(&self) -> Option<Fault>
         ensures { result ≡ last_fault self.now.failure }
     {

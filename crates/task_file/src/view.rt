@@ -1,4 +1,4 @@
-// What the controller sees of the selected drive, and the commands that are aborted for it.
+//! What the controller sees of the selected drive, and the commands that are aborted for it.
 ghost use Rattle.std.specs.Prelude.{◌≡◌, Some};
 ghost use Rattle.task_file.specs.Aborting.{is_unusable, unfit_for_floppy, refuses_format, is_hindered, aborts, guards};
 
@@ -7,35 +7,36 @@ use super::registers::Registers;
 use check_code::CheckMode;
 use drive::MOST_SECTORS;
 
-// The selected drive, as far as commands and the status depend on it. Each field is asked alone, the measures too.
+/// The selected drive, as far as commands and the status depend on it.
 #[derive(Clone, Copy)]
 pub struct DriveView {
     pub floppy: bool,
+    /// The head that SDH selects on it.
     pub head: u8,
     pub ready: bool,
     pub protected: bool,
+    /// Its measures, here and in the fields below.
     pub cylinders: u16,
     pub heads: u8,
     pub capacity: u32,
 }
 
 impl DriveView {
-    // Not ready, or a protected Winchester.
+    // Whether it is not ready, or a protected Winchester.
     fn is_unusable(self) -> bool
         ensures { result ≡ is_unusable self }
     {
         !self.ready || self.protected && !self.floppy
     }
 
-    // A floppy, and ECC or L is asked for.
+    // Whether it is a floppy, and ECC or L is asked for.
     fn is_unfit(self, command: Command, mode: CheckMode) -> bool
         ensures { result ≡ unfit_for_floppy command mode self }
     {
         self.floppy && (mode == CheckMode::Ecc || command.is_long())
     }
 
-    // The head, the count or the room on a track would make the drive refuse a format. The drive asks again when it formats,
-    // and tells which; here one answer is enough, and a count is never 0.
+    // Whether the head, the count or the room on a track would make the drive refuse a format.
     fn refuses_format(self, registers: Registers) -> bool
         ensures { result ≡ refuses_format registers self }
     {
@@ -44,15 +45,14 @@ impl DriveView {
         self.head >= self.heads || count > MOST_SECTORS || bytes > self.capacity as usize
     }
 
-    // A Write or Format on a protected floppy.
+    /// Whether the command is a Write or Format, and the drive a protected floppy.
     pub fn guards(self, command: Command) -> bool
         ensures { result ≡ guards command self }
     {
         command.writes() && self.floppy && self.protected
     }
 
-    // What can stand against any command but Test. The command and the registers came from the host one after the other, and
-    // are no one thing.
+    // Whether something stands against any command but Test.
     fn hinders(self, command: Command, registers: Registers) -> bool
         ensures { result ≡ is_hindered command registers self }
     {
@@ -62,7 +62,7 @@ impl DriveView {
             || self.guards(command)
     }
 
-    // Whether a command for this drive is aborted.
+    /// Whether a command for this drive is aborted.
     #[tactic(auto, unfolding(crate::specs::Aborting::aborts))]
     pub fn aborts(self, command: Command, registers: Registers) -> bool
         ensures { result ≡ aborts command registers (Some self) }
@@ -75,7 +75,7 @@ impl DriveView {
     }
 }
 
-// Whether a command is aborted: where no drive is selected, each but Test is.
+/// Whether a command is aborted: where no drive is selected, each but Test is.
 #[tactic(auto, unfolding(crate::specs::Aborting::aborts))]
 pub fn aborts(view: Option<DriveView>, command: Command, registers: Registers) -> bool
     ensures { result ≡ aborts command registers view }

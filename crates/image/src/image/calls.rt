@@ -1,4 +1,4 @@
-// An image as a drive.
+//! An image as a drive.
 ghost use Rattle.std.specs.Prelude.{◌≡◌, ◌+◌, ◌*◌, ◌<◌, ◌≤◌, length, IfSome, OnOk};
 ghost use Rattle.drive.specs.Model.{slot_of};
 ghost use Rattle.drive.specs.Calls.{track_under, format_answer};
@@ -22,7 +22,9 @@ impl<M: Make> Image<M> {
     // Where in the memory the record of a track under the head stands.
     fn record_range(&self, head: u8) -> Range<usize>
         requires { head < self.now.geometry.heads }
-        ensures start { result.start ≡ record_start self.now.geometry.heads self.now.geometry.capacity self.now.cylinder head }
+        ensures start { result.start
+            ≡ record_start self.now.geometry.heads self.now.geometry.capacity
+            self.now.cylinder head }
         ensures end { result.end ≡ result.start + (386 + self.now.geometry.capacity) }
         ensures inside { result.end ≤ length self.now.memory.items }
     {
@@ -34,8 +36,12 @@ impl<M: Make> Image<M> {
 
     // The slot of the first sector with this number and size on the track of a head.
     fn find(&self, at: SectorAddress) -> Option<usize>
-        ensures slot { result ≡ slot_of (track_under (model_of self.now) at.head) at.number at.size }
-        ensures found { IfSome result (λ k. (at.head < self.now.geometry.heads) × Slot (record_of self.now.geometry.heads self.now.geometry.capacity self.now.cylinder at.head self.now.memory.items) at.size k) }
+        ensures slot { result
+            ≡ slot_of (track_under (model_of self.now) at.head) at.number at.size }
+        ensures found { IfSome result
+            (λ k. (at.head < self.now.geometry.heads)
+            × Slot (record_of self.now.geometry.heads self.now.geometry.capacity
+            self.now.cylinder at.head self.now.memory.items) at.size k) }
     {
         if at.head >= self.geometry.heads {
             return None;
@@ -47,7 +53,9 @@ impl<M: Make> Image<M> {
     #[tactic(auto, unfolding(drive::specs::Calls::format_answer))]
     fn judge_format(&self, head: u8, ids: &[SectorId], size: SizeCode) -> Result<(), FormatError>
         ensures answer { result ≡ format_answer (model_of self.now) head ids.now size }
-        ensures granted { OnOk result ((head < self.now.geometry.heads) × (1 ≤ length ids.now) × (length ids.now ≤ 64) × (length ids.now * bytes_of size ≤ self.now.geometry.capacity)) }
+        ensures granted { OnOk result
+            ((head < self.now.geometry.heads) × (1 ≤ length ids.now) × (length ids.now ≤ 64)
+            × (length ids.now * bytes_of size ≤ self.now.geometry.capacity)) }
     {
         if self.protected {
             return Err(FormatError::Protected);
@@ -120,7 +128,9 @@ impl<M: Make> Drive for Image<M> {
         Ok(())
     }
 
-    #[tactic(auto, unfolding(drive::specs::Calls::read_answer, drive::specs::Calls::handed_over, drive::specs::Calls::after_read))]
+    #[tactic(auto, unfolding(drive::specs::Calls::read_answer, // the answer
+    drive::specs::Calls::handed_over, // the buffer
+    drive::specs::Calls::after_read))]
     fn read(&mut self, at: SectorAddress, buffer: &mut SectorBuffer) -> Result<(), ReadError> {
         let Some(slot) = self.find(at) else {
             return Err(ReadError::NoId);
@@ -145,7 +155,8 @@ impl<M: Make> Drive for Image<M> {
         write_slot(&mut self.memory[range], slot, at.size, buffer)
     }
 
-    #[tactic(auto, unfolding(drive::specs::Calls::format_answer, drive::specs::Calls::after_format))]
+    #[tactic(auto, unfolding(drive::specs::Calls::format_answer, // the answer
+    drive::specs::Calls::after_format))]
     fn format(
         &mut self,
         head: u8,

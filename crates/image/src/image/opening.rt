@@ -1,4 +1,4 @@
-// Making an image, and taking it apart.
+//! Making an image, and taking it apart.
 ghost use Rattle.std.specs.Prelude.{◌≡◌, ◌+◌, ◌*◌, ◌≤◌, IfOk, IfErr, OnOk, vec_len};
 ghost use Rattle.std.specs.Result.{result_err};
 ghost use Rattle.std.specs.Option.{option_map};
@@ -15,8 +15,14 @@ use std::marker::PhantomData;
 
 // What stands first against an image of a make, if anything does.
 fn judge<M: Make>(geometry: Geometry, length: usize) -> Result<(), Refusal>
-    ensures answer { result_err result ≡ refusal_of (measures M.MOST_CYLINDERS M.MOST_HEADS) geometry.cylinders geometry.heads geometry.capacity length }
-    ensures granted { OnOk result ((1 ≤ geometry.cylinders) × (geometry.cylinders ≤ M.MOST_CYLINDERS) × (1 ≤ geometry.heads) × (geometry.heads ≤ M.MOST_HEADS) × (geometry.capacity ≤ 65536) × (length ≡ (geometry.cylinders * geometry.heads) * (386 + geometry.capacity))) }
+    ensures answer { result_err result
+        ≡ refusal_of (measures M.MOST_CYLINDERS M.MOST_HEADS)
+        geometry.cylinders geometry.heads geometry.capacity length }
+    ensures granted { OnOk result
+        ((1 ≤ geometry.cylinders) × (geometry.cylinders ≤ M.MOST_CYLINDERS)
+        × (1 ≤ geometry.heads) × (geometry.heads ≤ M.MOST_HEADS)
+        × (geometry.capacity ≤ 65536)
+        × (length ≡ (geometry.cylinders * geometry.heads) * (386 + geometry.capacity))) }
 {
     let Geometry {
         cylinders,
@@ -39,13 +45,18 @@ fn judge<M: Make>(geometry: Geometry, length: usize) -> Result<(), Refusal>
 }
 
 impl<M: Make> Image<M> {
-    // An image with these measures over this memory, at cylinder 0, unless one of the four questions fails.
+    /// An image of these measures over this memory, at cylinder 0. Refused, in this order: the
+    /// cylinders, the heads, the capacity, and a memory that is not as long as the records.
     pub fn new(geometry: Geometry, protected: bool, memory: Vec<u8>) -> Result<Image<M>, Refused>
-        ensures refusal { option_map (λ e. e.refusal) (result_err result) ≡ refusal_of (measures M.MOST_CYLINDERS M.MOST_HEADS) geometry.cylinders geometry.heads geometry.capacity (vec_len memory) }
+        ensures refusal { option_map (λ e. e.refusal) (result_err result)
+            ≡ refusal_of (measures M.MOST_CYLINDERS M.MOST_HEADS)
+            geometry.cylinders geometry.heads geometry.capacity (vec_len memory) }
         ensures refused { IfErr result (λ e. e.memory ≡ memory) }
-        ensures made { IfOk result (λ d. model_of d ≡ image_model geometry.cylinders geometry.heads geometry.capacity protected 0 memory.items) }
+        ensures made { IfOk result
+            (λ d. model_of d ≡ image_model geometry.cylinders geometry.heads geometry.capacity
+            protected 0 memory.items) }
     {
-        // The memory goes back with the refusal, and no closure could take it for an error alone; so this is no `?`.
+        // The memory goes back with the refusal.
         if let Err(refusal) = judge::<M>(geometry, memory.len()) {
             return Err(Refused { refusal, memory });
         }
@@ -58,7 +69,7 @@ impl<M: Make> Image<M> {
         })
     }
 
-    // The sector memory, as it is now.
+    /// The sector memory, as it is now.
     pub fn into_memory(self) -> Vec<u8>
         ensures { result.items ≡ (model_of self).memory }
     {
