@@ -2,7 +2,7 @@
 use Rattle.std.proofs.Common.{◌≡◌, ℕ, ◌+◌, ◌<◌, List, [], ◌∷◌, ◌++◌, length, get_or, take, refl, ap, ◌∙◌}
 use Rattle.std.proofs.lemmas.List.{take_more}
 use Rattle.controller.specs.Model.{ControllerModel}
-use Rattle.histories.specs.Runs.{answer_to, called}
+use Rattle.controller.specs.Runs.{answer_to, called}
 use Rattle.c_abi.specs.declared.answers.PlainCall.{PlainCall}
 use Rattle.c_abi.specs.Runs.{call_of, shown, all_shown, run_of}
 

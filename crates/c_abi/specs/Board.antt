@@ -1,5 +1,5 @@
 -- The board that C describes.
-use Rattle.std.specs.Prelude.{ℕ, cond, List, [], length, map, Some, None, Option, ◌==◌}
+use Rattle.std.specs.Prelude.{ℕ, cond, List, [], ◌∷◌, length, map, Some, None, Option, ◌==◌}
 use Rattle.drive.specs.declared.geometry.Geometry.{Geometry}
 use Rattle.drive.specs.Bounds.{Measures, measures}
 use Rattle.drive.specs.Model.{DriveModel}
@@ -11,7 +11,8 @@ use Rattle.fault_table.specs.declared.entry.FaultKind.{FaultKind}
 use Rattle.fault_table.specs.declared.entry.FaultKind.TheVariants.{NoId, NoDataMark, WrongBits}
 use Rattle.fault_table.specs.Adding.{all_added}
 use Rattle.fault_table.specs.Faults.{with_faults}
-use Rattle.controller.specs.Model.{ControllerModel, made}
+use Rattle.task_file.specs.declared.bay.Bay.{Bay}
+use Rattle.controller.specs.Model.{ControllerModel, drives_of, made}
 use Rattle.c_abi.specs.declared.board.ImageMeasures.{ImageMeasures}
 use Rattle.c_abi.specs.declared.board.PlainFault.{PlainFault}
 
@@ -45,11 +46,16 @@ abbrev pub bay_model : Measures → ImageMeasures → List ℕ → DriveModel
 bay_model most m memory = bay_by (refusal_of most m.cylinders m.heads m.capacity (length memory)) m memory
 
 -- the Winchester under its faults, the floppy, and a controller that is made now over both
-abbrev pub board_model : ImageMeasures → List ℕ → List PlainFault → ImageMeasures → List ℕ → ControllerModel
+unfoldable pub board_model : ImageMeasures → List ℕ → List PlainFault → ImageMeasures → List ℕ → ControllerModel
 board_model w winchester faults f floppy =
-    made (with_faults (all_added [] (map entry_of faults)) (bay_model (measures 1024 8) w winchester)) (bay_model (measures 256 2) f floppy)
+    let table = with_faults (all_added [] (map entry_of faults)) (bay_model (measures 1024 8) w winchester) in
+    made (drives_of (λ d. d) (table ∷ bay_model (measures 256 2) f floppy ∷ []))
 
 -- ---- what is left in the bytes that C gave
+-- what the drive in a bay holds
+unfoldable pub held : ControllerModel → Bay → List ℕ
+held b bay = (b.drives bay).memory
+
 -- others of the same number; where they are more or fewer, the old ones stay
 abbrev pub fitting : {A : Type 0} → List A → List A → List A
 fitting new old = cond (length new == length old) new old

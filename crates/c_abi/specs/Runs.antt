@@ -5,9 +5,9 @@ use Rattle.task_file.specs.Failures.{last_fault}
 use Rattle.task_file.specs.State.{is_busy, requests}
 use Rattle.controller.specs.Access.{refusal_number}
 use Rattle.controller.specs.Model.{ControllerModel}
-use Rattle.histories.specs.declared.call.Call.{Call}
-use Rattle.histories.specs.declared.call.Call.TheVariants.{Read, Write, Turn, Reset}
-use Rattle.histories.specs.Runs.{Answer, answer_to, called}
+use Rattle.controller.specs.declared.call.Call.{Call}
+use Rattle.controller.specs.declared.call.Call.TheVariants.{Read, Write, Turn, Reset}
+use Rattle.controller.specs.Runs.{Answer, answer_to, called}
 use Rattle.c_abi.specs.declared.answers.PlainCall.{PlainCall}
 use Rattle.c_abi.specs.declared.answers.PlainAnswer.{PlainAnswer}
 

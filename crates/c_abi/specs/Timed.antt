@@ -1,9 +1,10 @@
 -- What the timed rounds answer and leave.
 use Rattle.std.specs.Prelude.{◌≡◌, ℕ, ◌⊎◌, false, List, []}
+use Rattle.task_file.specs.declared.bay.Bay.TheVariants.{Winchester1}
 use Rattle.rounds.specs.Rounds.{Heard, heard}
 use Rattle.c_abi.specs.declared.board.ImageMeasures.{ImageMeasures}
 use Rattle.c_abi.specs.declared.board.PlainFault.{PlainFault}
-use Rattle.c_abi.specs.Board.{board_model, fitting}
+use Rattle.c_abi.specs.Board.{board_model, held, fitting}
 
 -- the measures of a floppy that no bay takes
 abbrev pub no_floppy : ImageMeasures
@@ -17,4 +18,4 @@ heard_from rounds m bytes faults = rounds (heard (board_model m bytes faults no_
 abbrev pub Timed : (Heard → Heard) → ImageMeasures → List ℕ → List PlainFault → ℕ → List ℕ → Type 0
 Timed rounds m bytes faults sum after =
     ((sum ≡ 0) × (after ≡ bytes))
-    ⊎ ((sum ≡ (heard_from rounds m bytes faults).sum) × (after ≡ fitting (heard_from rounds m bytes faults).board.winchester.memory bytes))
+    ⊎ ((sum ≡ (heard_from rounds m bytes faults).sum) × (after ≡ fitting (held (heard_from rounds m bytes faults).board Winchester1) bytes))

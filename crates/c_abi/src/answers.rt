@@ -1,13 +1,13 @@
 //! Lists of calls on a board, with every answer.
 ghost use Rattle.std.specs.Prelude.{◌≡◌, IfOk, if◌then◌else◌};
-ghost use Rattle.controller.specs.Model.{model_of};
-ghost use Rattle.c_abi.specs.Board.{board_model, fitting};
+ghost use Rattle.controller.specs.Controller.{model_of};
+ghost use Rattle.task_file.specs.declared.bay.Bay.TheVariants.{Winchester1, Floppy1};
+ghost use Rattle.c_abi.specs.Board.{board_model, held, fitting};
 ghost use Rattle.c_abi.specs.Runs.{call_of, shown, all_shown, run_of};
 
 use super::board::{ImageMeasures, PlainFault, board, give_back, replace};
-use controller::Controller;
+use controller::{Answer, Call, Controller, make_call};
 use drive::Drive;
-use histories::{Answer, Call, make_call};
 use std::alloc::{AllocError, Global};
 
 /// A call, as C gives it: a read of a register, a write to one, a turn, or a master reset.
@@ -56,8 +56,8 @@ impl PlainCall {
 }
 
 // What C is told of an answer.
-fn tell<W: Drive, F: Drive>(controller: &Controller<W, F>, answer: Answer) -> PlainAnswer
-    ensures { result ≡ shown (model_of W.meaning F.meaning controller.now) answer }
+fn tell<D: Drive>(controller: &Controller<D>, answer: Answer) -> PlainAnswer
+    ensures { result ≡ shown (model_of D.meaning controller.now) answer }
 {
     let (refusal, byte) = match answer {
         Ok(Some(byte)) => (0, byte),
@@ -83,16 +83,16 @@ fn tell<W: Drive, F: Drive>(controller: &Controller<W, F>, answer: Answer) -> Pl
 
 // Makes the calls, and tells of each.
 #[tactic(auto, using(crate::proofs::Shown::steps))]
-fn all_answers<W: Drive, F: Drive>(
-    controller: &mut Controller<W, F>,
+fn all_answers<D: Drive>(
+    controller: &mut Controller<D>,
     heap: Global,
     calls: &[PlainCall],
 ) -> Result<Vec<PlainAnswer>, AllocError>
     ensures answers { IfOk result
-        (λ v. v.items ≡ all_shown (model_of W.meaning F.meaning controller.old) calls.now) }
+        (λ v. v.items ≡ all_shown (model_of D.meaning controller.old) calls.now) }
     ensures after { IfOk result
-        (λ _. model_of W.meaning F.meaning controller.new
-        ≡ run_of (model_of W.meaning F.meaning controller.old) calls.now) }
+        (λ _. model_of D.meaning controller.new
+        ≡ run_of (model_of D.meaning controller.old) calls.now) }
 {
     let mut answers = Vec::with_capacity(heap, calls.len())?;
     for call in calls {
@@ -120,12 +120,12 @@ pub extern "C" fn disk_answers(
         floppy.now floppy_bytes.old) calls.now) answers.old
         else answers.old) }
     ensures winchester { winchester_bytes.new ≡ (if result
-        then fitting (run_of (board_model winchester.now winchester_bytes.old faults.now
-        floppy.now floppy_bytes.old) calls.now).winchester.memory winchester_bytes.old
+        then fitting (held (run_of (board_model winchester.now winchester_bytes.old faults.now
+        floppy.now floppy_bytes.old) calls.now) Winchester1) winchester_bytes.old
         else winchester_bytes.old) }
     ensures floppy { floppy_bytes.new ≡ (if result
-        then fitting (run_of (board_model winchester.now winchester_bytes.old faults.now
-        floppy.now floppy_bytes.old) calls.now).floppy.memory floppy_bytes.old
+        then fitting (held (run_of (board_model winchester.now winchester_bytes.old faults.now
+        floppy.now floppy_bytes.old) calls.now) Floppy1) floppy_bytes.old
         else floppy_bytes.old) }
 {
     let made = board(

@@ -2,13 +2,15 @@
 //! image.
 ghost use Rattle.std.specs.Prelude.{◌≡◌, IfOk, [], length, map};
 ghost use Rattle.drive.specs.Bounds.{measures};
-ghost use Rattle.controller.specs.Model.{model_of};
+ghost use Rattle.task_file.specs.declared.bay.Bay.TheVariants.{Winchester1, Floppy1};
+ghost use Rattle.controller.specs.Controller.{model_of};
 ghost use Rattle.fault_table.specs.Adding.{all_added};
 ghost use Rattle.fault_table.specs.Faults.{with_faults};
-ghost use Rattle.c_abi.specs.Board.{geometry_of, entry_of, bay_model, board_model, fitting};
+ghost use Rattle.c_abi.specs.Board.{geometry_of, entry_of, bay_model, board_model, held, fitting};
 
 use controller::Controller;
-use drive::{Bay, Drive, Geometry, Place};
+use drive::{Drive, EmptyBay, Geometry, Place};
+use either::Either;
 use fault_table::{FaultEntry, FaultKind, FaultTable};
 use image::{Floppy, Image, Make, Winchester, fitted};
 use sector::Burst;
@@ -40,11 +42,11 @@ pub struct PlainFault {
     pub attempts: u16,
 }
 
-/// A Winchester image in its bay, under faults.
-pub type WinchesterUnit = FaultTable<Bay<Image<Winchester>>>;
+// An image, or the bay without a drive that is left where it is refused.
+type Fitted<M: Make> = Either<Image<M>, EmptyBay>;
 
-/// A floppy image in its bay.
-pub type FloppyUnit = Bay<Image<Floppy>>;
+/// What is in a bay: a Winchester's under faults, or a floppy's.
+pub type Unit = Either<FaultTable<Fitted<Winchester>>, Fitted<Floppy>>;
 
 impl ImageMeasures {
     fn geometry(self) -> Geometry
@@ -83,13 +85,9 @@ impl PlainFault {
 }
 
 // The bay that an image over a copy of these bytes is made for.
-fn bay<M: Make>(
-    heap: Global,
-    asked: ImageMeasures,
-    bytes: &[u8],
-) -> Result<Bay<Image<M>>, AllocError>
+fn bay<M: Make>(heap: Global, asked: ImageMeasures, bytes: &[u8]) -> Result<Fitted<M>, AllocError>
     ensures { IfOk result
-        (λ b. ⟦<Bay<Image<M>> as Drive>⟧.meaning b
+        (λ b. ⟦<Fitted<M> as Drive>⟧.meaning b
         ≡ bay_model (measures M.MOST_CYLINDERS M.MOST_HEADS) asked bytes.now) }
 {
     let memory = Vec::from_slice(heap, bytes)?;
@@ -115,15 +113,15 @@ pub fn board(
     faults: &[PlainFault],
     floppy: ImageMeasures,
     floppy_bytes: &[u8],
-) -> Result<Controller<WinchesterUnit, FloppyUnit>, AllocError>
+) -> Result<Controller<Unit>, AllocError>
     ensures { IfOk result
-        (λ c. model_of ⟦<WinchesterUnit as Drive>⟧.meaning ⟦<FloppyUnit as Drive>⟧.meaning c
+        (λ c. model_of ⟦<Unit as Drive>⟧.meaning c
         ≡ board_model winchester winchester_bytes.now faults.now floppy floppy_bytes.now) }
 {
     let mut table = FaultTable::over(bay::<Winchester>(heap, winchester, winchester_bytes)?);
     lay(&mut table, faults);
     let floppy = bay::<Floppy>(heap, floppy, floppy_bytes)?;
-    Ok(Controller::new(table, floppy))
+    Ok(Controller::new([Either::Left(table), Either::Right(floppy)]))
 }
 
 /// Puts others of the same number in the place of some items.
@@ -136,29 +134,35 @@ pub fn replace<T: Copy>(items: &mut [T], by: &[T])
 }
 
 // What an image holds, or what came for one.
-fn hand_back<M: Make>(bay: Bay<Image<M>>, bytes: &mut [u8])
-    ensures { bytes.new ≡ fitting (⟦<Bay<Image<M>> as Drive>⟧.meaning bay).memory bytes.old }
+fn memory<M: Make>(bay: Fitted<M>) -> Vec<u8>
+    ensures { result.items ≡ (⟦<Fitted<M> as Drive>⟧.meaning bay).memory }
 {
     match bay {
-        Bay::Fitted(image) => replace(bytes, &image.into_memory()),
-        Bay::Empty(memory) => replace(bytes, &memory),
+        Either::Left(image) => image.into_memory(),
+        Either::Right(empty) => empty.into_memory(),
     }
 }
 
-/// What both images hold.
-pub fn give_back(
-    board: Controller<WinchesterUnit, FloppyUnit>,
-    winchester: &mut [u8],
-    floppy: &mut [u8],
-)
-    ensures winchester { winchester.new
-        ≡ fitting (model_of ⟦<WinchesterUnit as Drive>⟧.meaning ⟦<FloppyUnit as Drive>⟧.meaning
-        board).winchester.memory winchester.old }
-    ensures floppy { floppy.new
-        ≡ fitting (model_of ⟦<WinchesterUnit as Drive>⟧.meaning ⟦<FloppyUnit as Drive>⟧.meaning
-        board).floppy.memory floppy.old }
+// What is left of the bytes that a bay was made over.
+fn hand_back(unit: Unit, bytes: &mut [u8])
+    ensures { bytes.new ≡ fitting (⟦<Unit as Drive>⟧.meaning unit).memory bytes.old }
 {
-    let (table, bay) = board.into_drives();
-    hand_back(table.into_drive(), winchester);
-    hand_back(bay, floppy);
+    let memory = match unit {
+        Either::Left(table) => memory(table.into_drive()),
+        Either::Right(bay) => memory(bay),
+    };
+    replace(bytes, &memory);
+}
+
+/// What both images hold.
+#[tactic(auto, unfolding(crate::specs::Board::held))]
+pub fn give_back(board: Controller<Unit>, winchester: &mut [u8], floppy: &mut [u8])
+    ensures winchester { winchester.new
+        ≡ fitting (held (model_of ⟦<Unit as Drive>⟧.meaning board) Winchester1) winchester.old }
+    ensures floppy { floppy.new
+        ≡ fitting (held (model_of ⟦<Unit as Drive>⟧.meaning board) Floppy1) floppy.old }
+{
+    let [first, second] = board.into_drives();
+    hand_back(first, winchester);
+    hand_back(second, floppy);
 }

@@ -1,9 +1,10 @@
 //! What the tests of the controller share: boards, and scripts whose steps are taken on them.
 use check_code::{Crc, check_bytes};
-use controller::{Controller, Lines};
-use drive::{Bay, Drive, Geometry, Place};
+use controller::{Answer, Call, Controller, Lines, make_call};
+use drive::{Drive, EmptyBay, Geometry, Place};
+use either::Either;
 use fault_table::{FaultEntry, FaultKind, FaultTable};
-use histories::{Answer, Call, finish, make_call};
+use histories::finish;
 use image::{FloppyImage, WinchesterImage, blank_memory, fitted};
 use sector::Burst;
 use std::alloc::Global;
@@ -79,8 +80,14 @@ const ABORTED: FaultNumbers = (1, 4, 0, 0, 0, 0);
 /// A script: its name, whether the drives are protected, and its steps.
 pub type Script<'a> = (&'a str, bool, &'a [Step]);
 
-/// A controller over a Winchester image under faults and a floppy image.
-pub type Board = Controller<FaultTable<Bay<WinchesterImage>>, Bay<FloppyImage>>;
+/// An image, or the bay without a drive that is left where it is refused.
+pub type Fitted<I> = Either<I, EmptyBay>;
+
+/// What a bay has: a Winchester image under faults, or a floppy image.
+pub type Unit = Either<FaultTable<Fitted<WinchesterImage>>, Fitted<FloppyImage>>;
+
+/// A controller over a Winchester and a floppy.
+pub type Board = Controller<Unit>;
 
 // Sector memory for an image of these measures, whose first track has sectors 255, 0, 1, 2, 3, 4, 5
 // and 6 of 128 zeros; 2 is marked bad.
@@ -119,14 +126,15 @@ const FLAWS: &[(u16, u8, u8, FaultKind, u16, u16)] = &[
     (1, 1, 3, FaultKind::WrongBits, 0, 2),
 ];
 
-// The measures of the Winchester and of the floppy.
-const WINCHESTER: Geometry = Geometry {
+/// The measures of the Winchester.
+pub const WINCHESTER: Geometry = Geometry {
     cylinders: 3,
     heads: 2,
     capacity: 32768,
 };
 
-const FLOPPY: Geometry = Geometry {
+/// The measures of the floppy.
+pub const FLOPPY: Geometry = Geometry {
     cylinders: 2,
     heads: 1,
     capacity: 1024,
@@ -154,7 +162,13 @@ pub fn board(rt: &impl Abort, heap: Global, protected: bool) -> Result<Board, Fa
             attempts: *attempts,
         });
     }
-    Ok(Controller::new(table, floppy))
+    Ok(Controller::new([Either::Left(table), Either::Right(floppy)]))
+}
+
+/// A controller that is made now, without drives.
+pub fn empty_board(heap: Global) -> Controller<EmptyBay> {
+    let empty = || EmptyBay::new(Vec::new(heap));
+    Controller::new([empty(), empty()])
 }
 
 // The fault of these numbers.
@@ -171,7 +185,7 @@ fn fault_of(numbers: FaultNumbers) -> Fault {
 }
 
 // Where a test stands: its script, and the number of the step that is taken.
-#[derive(Clone, Copy)]
+#[derive(Clone, Copy, Default)]
 struct Spot<'a> {
     script: &'a str,
     step: usize,
@@ -183,19 +197,38 @@ impl fmt::Display for Spot<'_> {
     }
 }
 
-// A board on which a script is played, the handle that ends a test that fails, and where the test
-// stands.
+/// A board on which scripts are played, the handle that ends a test that fails, and where the test
+/// stands.
 #[derive(Drop)]
-struct Bench<'a, R: Abort, W: Drive, F: Drive> {
+pub struct Bench<'a, R: Abort, D: Drive> {
     rt: &'a R,
-    board: &'a mut Controller<W, F>,
+    board: Controller<D>,
     at: Spot<'a>,
 }
 
-impl<R: Abort, W: Drive, F: Drive> Bench<'_, R, W, F> {
+impl<'a, R: Abort, D: Drive> Bench<'a, R, D> {
+    /// A bench with this board on it.
+    pub fn new(rt: &'a R, board: Controller<D>) -> Bench<'a, R, D> {
+        let at = Spot::default();
+        Bench { rt, board, at }
+    }
+
+    /// The board, as it is now.
+    pub fn into_board(self) -> Controller<D> {
+        self.board
+    }
+
+    /// Takes the steps of a script, one after another.
+    pub fn play(&mut self, script: &'a str, steps: &[Step]) {
+        for (step, taken) in steps.iter().enumerate() {
+            self.at = Spot { script, step };
+            self.take(*taken);
+        }
+    }
+
     // Makes a call, and has this answer.
     fn call(&mut self, call: Call, answer: Answer) {
-        assert_eq!(self.rt; make_call(self.board, call), answer, "{}", self.at);
+        assert_eq!(self.rt; make_call(&mut self.board, call), answer, "{}", self.at);
     }
 
     // Makes a call so many times, and has this answer each time.
@@ -207,7 +240,7 @@ impl<R: Abort, W: Drive, F: Drive> Bench<'_, R, W, F> {
 
     // Makes a call that is refused, by the refusal of this number.
     fn refused(&mut self, call: Call, why: u8) {
-        let answer = make_call(self.board, call).map_err(u8::from);
+        let answer = make_call(&mut self.board, call).map_err(u8::from);
         assert_eq!(self.rt; answer, Err(why), "{}", self.at);
     }
 
@@ -234,7 +267,7 @@ impl<R: Abort, W: Drive, F: Drive> Bench<'_, R, W, F> {
 
     // Turns until BUSY is off.
     fn turns(&mut self, count: u16) {
-        assert_eq!(self.rt; finish(self.board), count, "{}", self.at);
+        assert_eq!(self.rt; finish(&mut self.board), count, "{}", self.at);
     }
 
     // Looks at the lines.
@@ -331,25 +364,10 @@ impl<R: Abort, W: Drive, F: Drive> Bench<'_, R, W, F> {
     }
 }
 
-/// Takes the steps of a script, one after another.
-pub fn play<'a, W: Drive, F: Drive>(
-    rt: &'a impl Abort,
-    script: &'a str,
-    board: &'a mut Controller<W, F>,
-    steps: &[Step],
-) {
-    let at = Spot { script, step: 0 };
-    let mut bench = Bench { rt, board, at };
-    for (step, taken) in steps.iter().enumerate() {
-        bench.at.step = step;
-        bench.take(*taken);
-    }
-}
-
 /// Plays each script on a board of its own, with the faults of FLAWS.
 pub fn play_each(rt: &impl Abort, heap: Global, scripts: &[Script]) -> Result<(), Fail> {
     for (name, protected, steps) in scripts {
-        play(rt, name, &mut board(rt, heap, *protected)?, steps);
+        Bench::new(rt, board(rt, heap, *protected)?).play(name, steps);
     }
     Ok(())
 }

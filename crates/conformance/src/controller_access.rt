@@ -1,8 +1,6 @@
 //! Accesses to the registers: which are refused, by which refusal, and that a refused one changes
 //! nothing.
-use super::bench::{Refusals, Step, play, play_each};
-use controller::Controller;
-use drive::EmptyBay;
+use super::bench::{Bench, Refusals, Step, empty_board, play_each};
 use std::test::Fail;
 
 // By which refusal reads and writes of registers 0 to 8 are refused in each phase, or 0 where they
@@ -273,7 +271,7 @@ fn is_command(byte: u8) -> bool {
 // after that Test runs, other commands are aborted, and the rest refused.
 #[test]
 fn command_bytes(rt: HostRuntime) {
-    let mut board = Controller::new(EmptyBay, EmptyBay);
+    let mut bench = Bench::new(&rt, empty_board(rt.alloc()));
     for byte in 0..=255u8 {
         let given = if is_command(byte) {
             Step::Write(7, byte)
@@ -286,10 +284,8 @@ fn command_bytes(rt: HostRuntime) {
             Step::Fault(None)
         };
         let turns = Step::Turns(if byte == 0x90 { 1 } else { 0 });
-        play(
-            &rt,
+        bench.play(
             "command bytes",
-            &mut board,
             &[
                 Step::Reset,
                 Step::NoWrite(7, byte, 2),

@@ -1,8 +1,6 @@
 //! Commands as they are given: those that run and those that are aborted, seeks and restores,
 //! protection, master resets.
-use super::bench::{Step, board, play, play_each};
-use controller::Controller;
-use drive::EmptyBay;
+use super::bench::{Bench, Step, board, empty_board, play_each};
 use std::test::Fail;
 
 // What comes of Test, Restore, Seek, Read, Write, Format, and Read and Write with L = 1.
@@ -82,12 +80,7 @@ const EMPTY: &[Step] = &[
 // Every cause of abortion, for every command.
 #[test]
 fn abortions(rt: HostRuntime) -> Result<(), Fail> {
-    play(
-        &rt,
-        "empty",
-        &mut Controller::new(EmptyBay, EmptyBay),
-        EMPTY,
-    );
+    Bench::new(&rt, empty_board(rt.alloc())).play("empty", EMPTY);
     play_each(
         &rt,
         rt.alloc(),
@@ -368,7 +361,7 @@ fn seeks_notes_and_resets(rt: HostRuntime) -> Result<(), Fail> {
 // do the same. One of them is the bit of a long Read, which a floppy would refuse.
 #[test]
 fn low_bits(rt: HostRuntime) -> Result<(), Fail> {
-    let mut board = board(&rt, rt.alloc(), false)?;
+    let mut bench = Bench::new(&rt, board(&rt, rt.alloc(), false)?);
     for low in 0..16u8 {
         let steps = [
             Step::Turns(if low == 0 { 1 } else { 0 }),
@@ -389,7 +382,7 @@ fn low_bits(rt: HostRuntime) -> Result<(), Fail> {
             Step::Registers([0, 0, 0, 0, 0x78]),
             Step::Status(0x50, true),
         ];
-        play(&rt, "low bits", &mut board, &steps);
+        bench.play("low bits", &steps);
     }
     Ok(())
 }

@@ -1,7 +1,12 @@
-//! A history: a list of calls with every answer.
-use controller::{Controller, Refusal};
+//! A history: a list of calls with every answer, on a controller that stands, and on one that is
+//! made for it.
+use super::bench::empty_board;
+use controller::{Answer, Call, Controller, Refusal};
 use drive::EmptyBay;
-use histories::{Answer, Call, finish, run};
+use histories::{finish, run};
+use round_trip::run_anew;
+use std::alloc::{AllocError, Global};
+use std::process::Abort;
 use std::test::Fail;
 
 // Calls and their answers, from the making of a controller without drives to a Test that is under
@@ -27,19 +32,40 @@ const HISTORY: &[(Call, Answer)] = &[
     (Call::Write(7, 0x90), Ok(None)),
 ];
 
-// A run gives every answer, and leaves the Test under way.
-#[test]
-fn a_history(rt: HostRuntime) -> Result<(), Fail> {
-    let mut calls = Vec::new(rt.alloc());
+// The calls of HISTORY.
+fn calls(heap: Global) -> Result<Vec<Call>, AllocError> {
+    let mut calls = Vec::new(heap);
     for (call, _) in HISTORY {
         calls.push(*call)?;
     }
-    let mut controller = Controller::new(EmptyBay, EmptyBay);
-    let answers = run(&mut controller, rt.alloc(), &calls)?;
+    Ok(calls)
+}
+
+// These are the answers of HISTORY, and a Test is left under way, which is the only turn to make;
+// at rest there is none.
+fn has_answered(rt: &impl Abort, mut controller: Controller<EmptyBay>, answers: &[Answer]) {
     assert_eq!(rt; answers.len(), HISTORY.len());
     for ((_, expected), answer) in HISTORY.iter().zip(answers.iter()) {
         assert_eq!(rt; answer, expected);
     }
     assert_eq!(rt; finish(&mut controller), 1);
+    assert_eq!(rt; finish(&mut controller), 0);
+}
+
+// A run gives every answer, on a controller that stands.
+#[test]
+fn a_history(rt: HostRuntime) -> Result<(), Fail> {
+    let mut controller = empty_board(rt.alloc());
+    let answers = run(&mut controller, rt.alloc(), &calls(rt.alloc())?)?;
+    has_answered(&rt, controller, &answers);
+    Ok(())
+}
+
+// So does one that makes its controller.
+#[test]
+fn a_history_anew(rt: HostRuntime) -> Result<(), Fail> {
+    let drives = empty_board(rt.alloc()).into_drives();
+    let (controller, answers) = run_anew(drives, rt.alloc(), &calls(rt.alloc())?);
+    has_answered(&rt, controller, &answers?);
     Ok(())
 }

@@ -1,6 +1,6 @@
 //! The sector memory that comes back of a controller's drives.
-use super::bench::{Step, board, play};
-use drive::Bay;
+use super::bench::{Bench, Fitted, Step, Unit, board};
+use either::Either;
 use image::{Image, Make};
 use std::process::Abort;
 use std::test::Fail;
@@ -27,11 +27,19 @@ const KEPT: &[Step] = &[
     Step::Status(0x50, true),
 ];
 
-// The memory of a drive that is fitted, or of one that was refused.
-fn memory_of<M: Make>(bay: Bay<Image<M>>) -> Vec<u8> {
-    match bay {
-        Bay::Fitted(image) => image.into_memory(),
-        Bay::Empty(memory) => memory,
+// The memory of an image, or of one that was refused.
+fn fitted_memory<M: Make>(drive: Fitted<Image<M>>) -> Vec<u8> {
+    match drive {
+        Either::Left(image) => image.into_memory(),
+        Either::Right(empty) => empty.into_memory(),
+    }
+}
+
+// The memory of what a bay has.
+fn memory_of(unit: Unit) -> Vec<u8> {
+    match unit {
+        Either::Left(table) => fitted_memory(table.into_drive()),
+        Either::Right(floppy) => fitted_memory(floppy),
     }
 }
 
@@ -77,10 +85,10 @@ fn has(rt: &impl Abort, memory: &[u8], bytes: &[(usize, u8)]) {
 // The memory that comes back of drives that were written and formatted.
 #[test]
 fn memory_afterwards(rt: HostRuntime) -> Result<(), Fail> {
-    let mut board = board(&rt, rt.alloc(), false)?;
-    play(&rt, "kept", &mut board, KEPT);
-    let (winchester, floppy) = board.into_drives();
-    has(&rt, &memory_of(winchester.into_drive()), WINCHESTER_MEMORY);
+    let mut bench = Bench::new(&rt, board(&rt, rt.alloc(), false)?);
+    bench.play("kept", KEPT);
+    let [winchester, floppy] = bench.into_board().into_drives();
+    has(&rt, &memory_of(winchester), WINCHESTER_MEMORY);
     has(&rt, &memory_of(floppy), FLOPPY_MEMORY);
     Ok(())
 }

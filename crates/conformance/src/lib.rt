@@ -9,6 +9,8 @@ mod controller_access;
 #[cfg(test)]
 mod controller_amid;
 #[cfg(test)]
+mod controller_bays;
+#[cfg(test)]
 mod controller_commands;
 #[cfg(test)]
 mod controller_failures;

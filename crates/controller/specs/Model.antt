@@ -1,53 +1,52 @@
--- The controller with what its drives mean, and what each call on it answers and leaves.
-use Rattle.std.specs.Prelude.{◌≡◌, ℕ, Bool, true, false, Some, None, Option, Result}
+-- The controller with what its drives mean, and what each access, turn and reset answers and leaves.
+use Rattle.std.specs.Prelude.{ℕ, cond, List, [], map, Some, None, Option, Result, slice_index_or}
 use Rattle.drive.specs.Model.{DriveModel}
-use Rattle.task_file.specs.declared.registers.Selection.{Selection}
-use Rattle.task_file.specs.declared.registers.Selection.TheVariants.{Winchester, Floppy}
+use Rattle.drive.specs.Empty.{empty_model}
+use Rattle.task_file.specs.declared.bay.Bay.{Bay}
+use Rattle.task_file.specs.declared.bay.Selection.{Selection}
 use Rattle.task_file.specs.declared.state.Phase.{Phase}
 use Rattle.task_file.specs.declared.state.Phase.TheVariants.{Rest, Busy, Offering, Taking}
 use Rattle.task_file.specs.declared.state.State.{State}
 use Rattle.task_file.specs.declared.view.DriveView.{DriveView}
+use Rattle.task_file.specs.Bays.{bay_index, same_bay}
 use Rattle.task_file.specs.Registers.{selected}
 use Rattle.task_file.specs.State.{fresh, reset, requests}
 use Rattle.controller.specs.declared.access.Refusal.{Refusal}
 use Rattle.controller.specs.declared.access.Lines.{Lines}
-use Rattle.controller.specs.declared.controller.Controller.{Controller}
 use Rattle.controller.specs.Access.{read_answer_of, state_after_read, write_answer_of, state_after_write}
 use Rattle.controller.specs.Turns.{worked, without_drive}
 
--- the controller's state, and what its drives mean
+-- the controller's state, and what the drive in each bay means
 pub record ControllerModel : Type 0 where
   pub state : State
-  pub winchester : DriveModel
-  pub floppy : DriveModel
+  pub drives : Bay → DriveModel
 
--- a model of these three parts
-abbrev pub model : State → DriveModel → DriveModel → ControllerModel
-model s w f = record { state = s; winchester = w; floppy = f }
+-- what the drive in each bay means, by what the make of the drives means
+abbrev pub drives_of : {D : Type 0} → (D → DriveModel) → List D → Bay → DriveModel
+drives_of meaning drives bay = slice_index_or (map meaning drives) (bay_index bay) (empty_model [])
 
--- the model of a controller, by what the makes of its drives mean
-abbrev pub model_of : {W F : Type 0} → (W → DriveModel) → (F → DriveModel) → Controller W F → ControllerModel
-model_of w f c = model c.state (w c.winchester) (f c.floppy)
-
--- a call that leaves both drives as they were, whatever their makes
-abbrev pub KeepsDrives : {W F : Type 0} → Controller W F → Controller W F → Type 0
-KeepsDrives old new = (new.winchester ≡ old.winchester) × (new.floppy ≡ old.floppy)
+-- the model of a state and drives
+abbrev pub model : {D : Type 0} → (D → DriveModel) → State → List D → ControllerModel
+model meaning s drives = record { state = s; drives = drives_of meaning drives }
 
 -- with another state; the drives stay
 abbrev pub with_state : ControllerModel → State → ControllerModel
-with_state b s = model s b.winchester b.floppy
+with_state b s = record { state = s; drives = b.drives }
 
--- a controller that is made now, over two drives
-abbrev pub made : DriveModel → DriveModel → ControllerModel
-made w f = model fresh w f
+-- with another state, and another drive in one bay
+abbrev pub with_drive : ControllerModel → State → Bay → DriveModel → ControllerModel
+with_drive b s bay d = record { state = s; drives = λ other. cond (same_bay other bay) d (b.drives other) }
+
+-- a controller that is made over these drives
+abbrev pub made : (Bay → DriveModel) → ControllerModel
+made drives = record { state = fresh; drives = drives }
 
 -- ---- questions
--- what is seen of a drive under a head
-abbrev pub view_of : Bool → ℕ → DriveModel → DriveView
-view_of floppy head d =
+-- what is seen of a drive by what SDH selects
+abbrev pub view_of : Selection → DriveModel → DriveView
+view_of at d =
     record {
-      floppy = floppy;
-      head = head;
+      at = at;
       ready = d.ready;
       protected = d.protected;
       cylinders = d.cylinders;
@@ -57,8 +56,7 @@ view_of floppy head d =
 
 -- what is seen of the drive that a selection names
 abbrev pub seen_at : Option Selection → ControllerModel → Option DriveView
-seen_at (Some (Winchester head)) b = Some (view_of false head b.winchester)
-seen_at (Some (Floppy head)) b = Some (view_of true head b.floppy)
+seen_at (Some at) b = Some (view_of at (b.drives at.bay))
 seen_at None b = None
 
 -- what is seen of the drive that SDH selects, if it selects one
@@ -89,10 +87,7 @@ after_register_write b n byte = with_state b (state_after_write b.state (seen b)
 -- a turn: at rest and while bytes move it does nothing
 abbrev pub turned_in : Phase → Option Selection → ControllerModel → ControllerModel
 turned_in Rest sel b = b
-turned_in (Busy j) (Some (Winchester head)) b =
-    let t = worked j b.state head b.winchester in model t.state t.drive b.floppy
-turned_in (Busy j) (Some (Floppy head)) b =
-    let t = worked j b.state head b.floppy in model t.state b.winchester t.drive
+turned_in (Busy j) (Some at) b = let t = worked j b.state at (b.drives at.bay) in with_drive b t.state at.bay t.drive
 turned_in (Busy j) None b = with_state b (without_drive j b.state)
 turned_in (Offering m at) sel b = b
 turned_in (Taking l at) sel b = b

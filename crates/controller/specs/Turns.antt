@@ -3,6 +3,7 @@ use Rattle.std.specs.Prelude.{ℕ, ◌+◌, min, cond, List, ◌==◌, nat_lt}
 use Rattle.drive.specs.declared.answers.SectorId.{SectorId}
 use Rattle.drive.specs.Model.{DriveModel}
 use Rattle.drive.specs.Calls.{stepped_out, nearer, read_answer, handed_over, after_read, write_answer, after_write, format_answer, after_format}
+use Rattle.task_file.specs.declared.bay.Selection.{Selection}
 use Rattle.task_file.specs.declared.failure.Failure.TheVariants.{Aborted, TrackZero}
 use Rattle.task_file.specs.declared.state.ReadJob.{ReadJob}
 use Rattle.task_file.specs.declared.state.WriteJob.{WriteJob}
@@ -35,42 +36,42 @@ once_there s d act = cond (d.cylinder == cylinder_of s.registers) act (turned s 
 
 -- ---- the acts
 -- a read attempt at the sector that the registers name: it is judged with what it delivered in the buffer
-abbrev pub read_act : State → ReadJob → ℕ → DriveModel → Turned
-read_act s j head d =
+abbrev pub read_act : State → ReadJob → Selection → DriveModel → Turned
+read_act s j at d =
     turned
-    (read_judged (read_answer d head s.registers.number (size_at s.registers.sdh))
-    (with_buffer s (handed_over d head s.registers.number (size_at s.registers.sdh) s.buffer)) j head)
-    (after_read d head s.registers.number)
+    (read_judged (read_answer d at.head s.registers.number (size_at s.registers.sdh))
+    (with_buffer s (handed_over d at.head s.registers.number (size_at s.registers.sdh) s.buffer)) j at)
+    (after_read d at.head s.registers.number)
 
 -- a write attempt at it, with what the buffer has
-abbrev pub write_act : State → WriteJob → ℕ → DriveModel → Turned
-write_act s j head d =
+abbrev pub write_act : State → WriteJob → Selection → DriveModel → Turned
+write_act s j at d =
     turned
-    (write_judged (write_answer d head s.registers.number (size_at s.registers.sdh)) s j head)
-    (after_write d head s.registers.number (size_at s.registers.sdh) s.buffer)
+    (write_judged (write_answer d at.head s.registers.number (size_at s.registers.sdh)) s j at)
+    (after_write d at.head s.registers.number (size_at s.registers.sdh) s.buffer)
 
 -- the sectors of a format: as many pairs of the buffer as the count says (more than 64 were aborted)
 abbrev pub ids_asked : State → List SectorId
 ids_asked s = ids_of s.buffer.bytes (min (sector_count s.registers) 64)
 
 -- a format of the track, with zeros and their check bytes
-abbrev pub format_act : State → ℕ → DriveModel → Turned
-format_act s head d =
+abbrev pub format_act : State → Selection → DriveModel → Turned
+format_act s at d =
     turned
-    (format_judged (format_answer d head (ids_asked s) (size_at s.registers.sdh)) s)
-    (after_format d head (ids_asked s) (size_at s.registers.sdh) (zero_check (mode_at s.registers.sdh) (size_at s.registers.sdh)))
+    (format_judged (format_answer d at.head (ids_asked s) (size_at s.registers.sdh)) s)
+    (after_format d at.head (ids_asked s) (size_at s.registers.sdh) (zero_check (mode_at s.registers.sdh) (size_at s.registers.sdh)))
 
 -- ---- a turn
--- what a job does in one turn, under a head of the selected drive; Test ends
-unfoldable pub worked : Job → State → ℕ → DriveModel → Turned
-worked Test s head d = turned (ended s) d
-worked (Restore steps) s head d = restore_turn s steps d
-worked Seek s head d = once_there s d (turned (ended s) d)
-worked (Read j) s head d = once_there s d (read_act s j head d)
-worked (Write j) s head d = once_there s d (write_act s j head d)
-worked Format s head d = once_there s d (format_act s head d)
+-- what a job does in one turn, on the selected drive; Test ends
+unfoldable pub worked : Job → State → Selection → DriveModel → Turned
+worked Test s at d = turned (ended s) d
+worked (Restore steps) s at d = restore_turn s steps d
+worked Seek s at d = once_there s d (turned (ended s) d)
+worked (Read j) s at d = once_there s d (read_act s j at d)
+worked (Write j) s at d = once_there s d (write_act s j at d)
+worked Format s at d = once_there s d (format_act s at d)
 
--- where no drive is selected, Test ends; any other job, which no run meets there, is aborted
+-- where no drive is selected, Test ends; any other job is aborted, which no history meets
 abbrev pub without_drive : Job → State → State
 without_drive Test s = ended s
 without_drive (Restore steps) s = failed s Aborted

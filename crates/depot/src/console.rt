@@ -2,9 +2,9 @@
 use super::outcome::{Failure, Outcome, Success};
 use super::registers::{ECC_512, Order, Status, read, write};
 use anyhow::anyhow;
-use controller::{Controller, Lines};
+use controller::{Answer, Call, Controller, Lines, make_call};
 use drive::{Drive, Place};
-use histories::{Answer, Call, finish, make_call};
+use histories::finish;
 use records::{Grid, RECORD};
 use round_trip::run;
 use std::alloc::Global;
@@ -13,8 +13,8 @@ use task_file::Register;
 /// A console with its controller. It knows where records lie on the Winchester, and remembers the
 /// cylinder that it sent the head to.
 #[derive(Drop)]
-pub struct Console<W: Drive, F: Drive> {
-    controller: Controller<W, F>,
+pub struct Console<D: Drive> {
+    controller: Controller<D>,
     heap: Global,
     grid: Grid,
     cylinder: u16,
@@ -36,9 +36,9 @@ fn format_bytes(sectors: u8) -> [u8; RECORD] {
     bytes
 }
 
-impl<W: Drive, F: Drive> Console<W, F> {
+impl<D: Drive> Console<D> {
     /// A console before a controller that was just made.
-    pub fn new(controller: Controller<W, F>, heap: Global, grid: Grid) -> Console<W, F> {
+    pub fn new(controller: Controller<D>, heap: Global, grid: Grid) -> Console<D> {
         Console {
             controller,
             heap,

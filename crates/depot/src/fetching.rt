@@ -7,10 +7,7 @@ use records::RECORD;
 use std::io;
 
 /// An earlier show: the first record is half read, and everything is left as it stands then.
-pub fn leave_half<W: Drive, F: Drive>(
-    rt: &HostRuntime,
-    console: &mut Console<W, F>,
-) -> anyhow::Result<()> {
+pub fn leave_half<D: Drive>(rt: &HostRuntime, console: &mut Console<D>) -> anyhow::Result<()> {
     let Some(place) = console.grid().place(0) else {
         println!(rt; "earlier show: none, since the drive has no record")?;
         return Ok(());
@@ -41,9 +38,9 @@ fn print_reading(rt: &HostRuntime, index: usize, outcome: Outcome) -> io::Result
 
 /// The bytes of the records at these places. One that cannot be read is told of, and counts as
 /// zeros.
-pub fn fetch<W: Drive, F: Drive>(
+pub fn fetch<D: Drive>(
     rt: &HostRuntime,
-    console: &mut Console<W, F>,
+    console: &mut Console<D>,
     places: &[Place],
 ) -> anyhow::Result<Vec<u8>> {
     let mut script = Vec::new(rt.alloc());

@@ -8,9 +8,9 @@ use records::RECORD;
 use std::io;
 
 /// Sends the head to cylinder 0, at the depot or on site.
-pub fn restore<W: Drive, F: Drive>(
+pub fn restore<D: Drive>(
     rt: &HostRuntime,
-    console: &mut Console<W, F>,
+    console: &mut Console<D>,
     here: &str,
 ) -> anyhow::Result<()> {
     let outcome = console
@@ -23,9 +23,9 @@ pub fn restore<W: Drive, F: Drive>(
 }
 
 // Formats the track of a place with as many records as tracks have room for.
-fn format_track<W: Drive, F: Drive>(
+fn format_track<D: Drive>(
     rt: &HostRuntime,
-    console: &mut Console<W, F>,
+    console: &mut Console<D>,
     place: Place,
 ) -> anyhow::Result<Outcome> {
     let sectors = console.grid().sectors;
@@ -35,10 +35,7 @@ fn format_track<W: Drive, F: Drive>(
 }
 
 // Formats every track, if tracks have room for a record.
-fn format_tracks<W: Drive, F: Drive>(
-    rt: &HostRuntime,
-    console: &mut Console<W, F>,
-) -> anyhow::Result<()> {
+fn format_tracks<D: Drive>(rt: &HostRuntime, console: &mut Console<D>) -> anyhow::Result<()> {
     let grid = console.grid();
     let heads = if grid.sectors == 0 { 0 } else { grid.heads };
     let mut tracks = 0usize;
@@ -62,10 +59,7 @@ fn format_tracks<W: Drive, F: Drive>(
 }
 
 /// Waits for the controller's test, restores the head and formats the drive.
-pub fn prepare<W: Drive, F: Drive>(
-    rt: &HostRuntime,
-    console: &mut Console<W, F>,
-) -> anyhow::Result<()> {
+pub fn prepare<D: Drive>(rt: &HostRuntime, console: &mut Console<D>) -> anyhow::Result<()> {
     let outcome = console.test()?.required(rt.alloc(), "the test failed")?;
     let turns = outcome.turns;
     println!(rt; "depot: Test at power-on, turns: {turns}")?;
@@ -83,9 +77,9 @@ fn print_writing(rt: &HostRuntime, index: usize, outcome: Outcome) -> io::Result
 }
 
 /// Writes a sheet, record by record.
-pub fn store<W: Drive, F: Drive>(
+pub fn store<D: Drive>(
     rt: &HostRuntime,
-    console: &mut Console<W, F>,
+    console: &mut Console<D>,
     places: &[Place],
     sheet: &[u8],
 ) -> anyhow::Result<()> {

@@ -18,15 +18,23 @@ mod registers;
 
 use console::Console;
 use controller::Controller;
-use drive::{Bay, Geometry};
+use drive::{EmptyBay, Geometry};
+use either::Either;
 use fault_table::FaultTable;
 use faults::FAULTS;
 use fetching::{fetch, leave_half};
-use image::{FloppyImage, blank_memory, fitted};
+use image::{FloppyImage, WinchesterImage, blank_memory, fitted};
 use keeping::{prepare, restore, store};
 use program_parts::{asked_for, lay, print_comparison, read_sheet, winchester};
 use records::{Grid, RECORD};
 use std::alloc::{AllocError, Global};
+use task_file::BAYS;
+
+// A floppy, or a bay without one.
+type Floppy = Either<FloppyImage, EmptyBay>;
+
+// What stands in a bay: the Winchester under faults, or a floppy.
+type Unit = Either<FaultTable<WinchesterImage>, Floppy>;
 
 // The floppy's measures.
 const FLOPPY: Geometry = Geometry {
@@ -36,7 +44,7 @@ const FLOPPY: Geometry = Geometry {
 };
 
 // A blank floppy in its bay.
-fn floppy(heap: Global) -> Result<Bay<FloppyImage>, AllocError> {
+fn floppy(heap: Global) -> Result<Floppy, AllocError> {
     let memory = blank_memory(heap, FLOPPY)?;
     Ok(fitted(FloppyImage::new(FLOPPY, false, memory)))
 }
@@ -44,13 +52,14 @@ fn floppy(heap: Global) -> Result<Bay<FloppyImage>, AllocError> {
 // Takes the sheet to the drive and the script from it, with one controller from first to last.
 fn run(rt: &HostRuntime) -> anyhow::Result<()> {
     let geometry = asked_for(rt)?;
-    let bay = winchester(rt, geometry)?;
+    let image = winchester(rt, geometry)?;
     let sheet = read_sheet(rt)?;
     let grid = Grid::from(geometry);
     let places = grid.places(rt.alloc(), sheet.len().div_ceil(RECORD))?;
-    let mut damaged = FaultTable::over(bay);
+    let mut damaged = FaultTable::over(image);
     lay(rt, &mut damaged, &places, FAULTS)?;
-    let controller = Controller::new(damaged, floppy(rt.alloc())?);
+    let units: [Unit; BAYS] = [Either::Left(damaged), Either::Right(floppy(rt.alloc())?)];
+    let controller = Controller::new(units);
     let mut console = Console::new(controller, rt.alloc(), grid);
     prepare(rt, &mut console)?;
     store(rt, &mut console, &places, &sheet)?;

@@ -1,5 +1,5 @@
 //! What a console writes to the registers of a controller, and what it reads from them.
-use histories::Call;
+use controller::Call;
 use std::fmt;
 use task_file::Register;
 

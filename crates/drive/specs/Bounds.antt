@@ -42,3 +42,8 @@ pub record Bounded (most : Measures) (d : DriveModel) : Type 0 where
   pub whole_sectors : (c h : ℕ) → All Whole (d.track c h)
   pub past_cylinders : (c h : ℕ) → d.cylinders ≤ c → d.track c h ≡ []
   pub past_heads : (c h : ℕ) → d.heads ≤ h → d.track c h ≡ []
+
+-- A drive with the meaning of a drive: 1 to 1,024 cylinders and 1 to 8 heads, its head on one of the cylinders, on each
+-- track at most 64 sectors, each of them whole, and no sector elsewhere.
+abbrev pub ADrive : DriveModel → Type 0
+ADrive d = Bounded (record { cylinders = 1024; heads = 8 }) d

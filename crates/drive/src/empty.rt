@@ -1,5 +1,5 @@
 //! The bay without a drive.
-ghost use Rattle.std.specs.Prelude.{[]};
+ghost use Rattle.std.specs.Prelude.{◌≡◌};
 ghost use Rattle.drive.specs.Empty.{empty_model};
 ghost use Rattle.std.proofs.Common.{rules};
 
@@ -9,9 +9,28 @@ use super::drive::Drive;
 use super::place::SectorAddress;
 use sector::SizeCode;
 
-/// A bay without a drive: one cylinder, one head, no room on its track, never ready.
-#[derive(Clone, Copy, Debug)]
-pub struct EmptyBay;
+/// A bay without a drive, with the memory that came for one: one cylinder, one head, no room on its
+/// track, never ready.
+#[derive(Drop)]
+pub struct EmptyBay {
+    memory: Vec<u8>,
+}
+
+impl EmptyBay {
+    /// A bay without a drive, with this memory.
+    pub fn new(memory: Vec<u8>) -> EmptyBay
+        ensures { result.memory ≡ memory }
+    {
+        EmptyBay { memory }
+    }
+
+    /// The memory, untouched.
+    pub fn into_memory(self) -> Vec<u8>
+        ensures { result ≡ self.memory }
+    {
+        self.memory
+    }
+}
 
 impl Drive for EmptyBay {
     const MOST_CYLINDERS: u16 = 1;
@@ -22,7 +41,7 @@ impl Drive for EmptyBay {
 
     ghost MOST_HEADS = { 1 };
 
-    ghost meaning = { λ _. empty_model [] };
+    ghost meaning = { λ b. empty_model b.memory.items };
 
     ghost limits = { Prim.search rules };
 
@@ -52,30 +71,22 @@ impl Drive for EmptyBay {
         0
     }
 
-    #[tactic(auto, unfolding(crate::specs::Calls::step_answer, crate::specs::Calls::stepped_in))]
     fn step_in(&mut self) -> Result<(), NotReady> {
         Err(NotReady)
     }
 
-    #[tactic(auto, unfolding(crate::specs::Calls::step_answer, crate::specs::Calls::stepped_out))]
     fn step_out(&mut self) -> Result<(), NotReady> {
         Err(NotReady)
     }
 
-    #[tactic(auto, unfolding(crate::specs::Calls::read_answer, // the answer
-    crate::specs::Calls::handed_over, // the buffer
-    crate::specs::Calls::after_read))]
     fn read(&mut self, _at: SectorAddress, _buffer: &mut SectorBuffer) -> Result<(), ReadError> {
         Err(ReadError::NotReady)
     }
 
-    #[tactic(auto, unfolding(crate::specs::Calls::write_answer, crate::specs::Calls::after_write))]
     fn write(&mut self, _at: SectorAddress, _buffer: &SectorBuffer) -> Result<(), WriteError> {
         Err(WriteError::NotReady)
     }
 
-    #[tactic(auto, unfolding(crate::specs::Calls::format_answer, // the answer
-    crate::specs::Calls::after_format))]
     fn format(
         &mut self,
         _head: u8,

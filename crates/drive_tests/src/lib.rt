@@ -5,9 +5,10 @@
 #[cfg(test)]
 mod tests {
     use drive::{
-        Bay, Drive, FormatError, Geometry, ReadError, SectorAddress, SectorBuffer, SectorId,
-        WriteError,
+        Drive, EmptyBay, FormatError, Geometry, NotReady, ReadError, SectorAddress, SectorBuffer,
+        SectorId, WriteError,
     };
+    use either::Either;
     use image::{Floppy, FloppyImage, Image, Make, Refused, Winchester, WinchesterImage, fitted};
     use sector::SizeCode;
     use std::alloc::Global;
@@ -118,12 +119,12 @@ mod tests {
         let mut memory = vec![in heap; 0u8; 898]?;
         assert!(rt; memory.len() == 898);
         memory[0..6].copy_from_slice(&header.bytes);
-        let mut bay = fitted(WinchesterImage::new(geometry(1, 1, 512), false, memory));
+        let mut drive = fitted(WinchesterImage::new(geometry(1, 1, 512), false, memory));
         let mut buffer = SectorBuffer {
             bytes: [1; 1024],
             check: [1; 4],
         };
-        let answer = bay.read(at(7, SizeCode::Bytes256), &mut buffer);
+        let answer = drive.read(at(7, SizeCode::Bytes256), &mut buffer);
         assert_eq!(rt; answer, header.answer);
         assert_eq!(rt; buffer.bytes[255] == 0, header.answer.is_ok());
         assert_eq!(rt; buffer.bytes[256], 1);
@@ -153,10 +154,10 @@ mod tests {
         Ok(())
     }
 
-    fn memory_of(bay: Bay<FloppyImage>) -> Vec<u8> {
-        match bay {
-            Bay::Fitted(image) => image.into_memory(),
-            Bay::Empty(memory) => memory,
+    fn memory_of(drive: Either<FloppyImage, EmptyBay>) -> Vec<u8> {
+        match drive {
+            Either::Left(image) => image.into_memory(),
+            Either::Right(empty) => empty.into_memory(),
         }
     }
 
@@ -218,11 +219,11 @@ mod tests {
     #[test]
     fn written_and_read_back(rt: HostRuntime) -> Result<(), Fail> {
         let memory = vec![in rt.alloc(); 9u8; 1796]?;
-        let mut bay = fitted(FloppyImage::new(geometry(2, 1, 512), false, memory));
-        let _ = bay.step_in();
-        format(&rt, &mut bay);
-        write_and_read(&rt, &mut bay);
-        let memory = memory_of(bay);
+        let mut drive = fitted(FloppyImage::new(geometry(2, 1, 512), false, memory));
+        let _ = drive.step_in();
+        format(&rt, &mut drive);
+        write_and_read(&rt, &mut drive);
+        let memory = memory_of(drive);
         assert!(rt; memory.len() == 1796);
         for (place, byte) in WRITTEN {
             assert_eq!(rt; memory.get(*place).copied(), Some(*byte), "byte {place}");
@@ -233,20 +234,54 @@ mod tests {
     #[test]
     fn protected(rt: HostRuntime) -> Result<(), Fail> {
         let memory = vec![in rt.alloc(); 0u8; 514]?;
-        let mut bay = fitted(WinchesterImage::new(geometry(1, 1, 128), true, memory));
+        let mut drive = fitted(WinchesterImage::new(geometry(1, 1, 128), true, memory));
         let beyond = SectorAddress {
             head: 9,
             number: 0,
             size: SizeCode::Bytes128,
         };
         assert_eq!(rt;
-            bay.write(beyond, &SectorBuffer::zeroed()),
+            drive.write(beyond, &SectorBuffer::zeroed()),
             Err(WriteError::Protected)
         );
         assert_eq!(rt;
-            bay.format(9, &[], SizeCode::Bytes128, [0; 4]),
+            drive.format(9, &[], SizeCode::Bytes128, [0; 4]),
             Err(FormatError::Protected)
         );
+        Ok(())
+    }
+
+    // Makes each call that needs a drive, with sixes in the buffer.
+    fn not_ready<D: Drive>(rt: &impl Abort, drive: &mut D) {
+        let mut buffer = SectorBuffer {
+            bytes: [6; 1024],
+            check: [6; 4],
+        };
+        let first = at(0, SizeCode::Bytes128);
+        assert!(rt; !drive.is_ready());
+        assert_eq!(rt; drive.step_in(), Err(NotReady));
+        assert_eq!(rt; drive.step_out(), Err(NotReady));
+        assert_eq!(rt; drive.read(first, &mut buffer), Err(ReadError::NotReady));
+        assert_eq!(rt; drive.write(first, &buffer), Err(WriteError::NotReady));
+        assert_eq!(rt;
+            drive.format(0, &[id(0, false)], SizeCode::Bytes128, [0; 4]),
+            Err(FormatError::NotReady)
+        );
+        assert!(rt; buffer.bytes == [6; 1024] && buffer.check == [6; 4]);
+    }
+
+    // An image that is refused leaves a bay without a drive, which gives the memory back.
+    #[test]
+    fn refused_images(rt: HostRuntime) -> Result<(), Fail> {
+        let bytes = [9, 8, 7];
+        for length in 0..=bytes.len() {
+            let mut memory = Vec::new(rt.alloc());
+            memory.extend_from_slice(&bytes[..length])?;
+            let mut drive = fitted(FloppyImage::new(geometry(1, 1, 128), false, memory));
+            not_ready(&rt, &mut drive);
+            assert!(rt; drive.is_right());
+            assert!(rt; memory_of(drive).as_slice() == &bytes[..length]);
+        }
         Ok(())
     }
 }

@@ -76,6 +76,12 @@ impl<D: Drive> FaultTable<D> {
 }
 
 // Calls that no entry changes are handed to the drive below.
+#[tactic(auto, unfolding(drive::specs::Calls::step_answer, // what steps answer
+drive::specs::Calls::stepped_in, drive::specs::Calls::stepped_out, // and leave
+drive::specs::Calls::read_answer, drive::specs::Calls::handed_over, // reads
+drive::specs::Calls::after_read, drive::specs::Calls::write_answer, // writes
+drive::specs::Calls::after_write, drive::specs::Calls::format_answer, // formats
+drive::specs::Calls::after_format))]
 impl<D: Drive> Drive for FaultTable<D> {
     const MOST_CYLINDERS: u16 = D::MOST_CYLINDERS;
 
@@ -115,19 +121,14 @@ impl<D: Drive> Drive for FaultTable<D> {
         self.drive.cylinder()
     }
 
-    #[tactic(auto, unfolding(drive::specs::Calls::step_answer, drive::specs::Calls::stepped_in))]
     fn step_in(&mut self) -> Result<(), NotReady> {
         self.drive.step_in()
     }
 
-    #[tactic(auto, unfolding(drive::specs::Calls::step_answer, drive::specs::Calls::stepped_out))]
     fn step_out(&mut self) -> Result<(), NotReady> {
         self.drive.step_out()
     }
 
-    #[tactic(auto, unfolding(drive::specs::Calls::read_answer, // the answer
-    drive::specs::Calls::handed_over, // the buffer
-    drive::specs::Calls::after_read))]
     fn read(&mut self, at: SectorAddress, buffer: &mut SectorBuffer) -> Result<(), ReadError> {
         if !self.drive.is_ready() {
             return Err(ReadError::NotReady);
@@ -143,7 +144,6 @@ impl<D: Drive> Drive for FaultTable<D> {
         }
     }
 
-    #[tactic(auto, unfolding(drive::specs::Calls::write_answer, drive::specs::Calls::after_write))]
     fn write(&mut self, at: SectorAddress, buffer: &SectorBuffer) -> Result<(), WriteError> {
         if !self.drive.is_ready() {
             return Err(WriteError::NotReady);
@@ -158,8 +158,6 @@ impl<D: Drive> Drive for FaultTable<D> {
         self.drive.write(at, buffer)
     }
 
-    #[tactic(auto, unfolding(drive::specs::Calls::format_answer, // the answer
-    drive::specs::Calls::after_format))]
     fn format(
         &mut self,
         head: u8,

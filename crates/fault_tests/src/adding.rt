@@ -40,7 +40,7 @@ fn ranges(rt: HostRuntime) {
         entry(0, 0, 0, 33, 1),
         entry(0, 0, 0, 1, 0),
     ];
-    let mut table = FaultTable::over(EmptyBay);
+    let mut table = FaultTable::over(EmptyBay::new(Vec::new(rt.alloc())));
     for kind in [FaultKind::NoId, FaultKind::NoDataMark, FaultKind::WrongBits] {
         for entry in taken {
             assert_eq!(rt; add(&mut table, FaultEntry { kind, ..entry }), Ok(()));
@@ -54,7 +54,7 @@ fn ranges(rt: HostRuntime) {
 // A refused entry takes no room; a full table is asked first.
 #[test]
 fn thirty_two(rt: HostRuntime) {
-    let mut table = FaultTable::over(EmptyBay);
+    let mut table = FaultTable::over(EmptyBay::new(Vec::new(rt.alloc())));
     for _ in 0..31 {
         assert_eq!(rt; add(&mut table, entry(0, 0, 0, 1, 1)), Ok(()));
     }

@@ -1,10 +1,9 @@
 //! What attempts show under entries.
 use drive::{
-    Bay, Drive, EmptyBay, Geometry, Place, ReadError, SectorAddress, SectorBuffer, SectorId,
-    WriteError,
+    Drive, EmptyBay, Geometry, Place, ReadError, SectorAddress, SectorBuffer, SectorId, WriteError,
 };
 use fault_table::{FaultEntry, FaultKind, FaultTable};
-use image::{WinchesterImage, fitted};
+use image::WinchesterImage;
 use sector::{Burst, SizeCode};
 use std::alloc::Global;
 use std::process::Abort;
@@ -39,17 +38,14 @@ const fn good(number: u8) -> SectorId {
 }
 
 // Two cylinders of one head, with sectors 1 and 2, of 128 zeros, at cylinder 0.
-fn formatted(heap: Global, protected: bool) -> Result<Bay<WinchesterImage>, Fail> {
+fn formatted(heap: Global, protected: bool) -> Result<WinchesterImage, Fail> {
     let memory = vec![in heap; 0u8; 1284]?;
-    let mut bay = fitted(WinchesterImage::new(GEOMETRY, false, memory));
-    let _ = bay.format(0, &[good(1), good(2)], SizeCode::Bytes128, [0; 4]);
+    let mut image = WinchesterImage::new(GEOMETRY, false, memory)?;
+    let _ = image.format(0, &[good(1), good(2)], SizeCode::Bytes128, [0; 4]);
     if !protected {
-        return Ok(bay);
+        return Ok(image);
     }
-    match bay {
-        Bay::Fitted(image) => Ok(fitted(WinchesterImage::new(GEOMETRY, true, image.into_memory()))),
-        Bay::Empty(memory) => Ok(Bay::Empty(memory)),
-    }
+    Ok(WinchesterImage::new(GEOMETRY, true, image.into_memory())?)
 }
 
 // A sector of 128 bytes under head 0.
@@ -163,7 +159,7 @@ fn refused_attempts(rt: HostRuntime) -> Result<(), Fail> {
     add(&mut table, &[entry(1, FaultKind::NoId, 1, 1)])?;
     writes(&rt, &mut table, 1, b"pp");
     reads(&rt, &mut table, 1, b"i0");
-    let mut empty = FaultTable::over(EmptyBay);
+    let mut empty = FaultTable::over(EmptyBay::new(Vec::new(rt.alloc())));
     add(&mut empty, &[entry(1, FaultKind::NoId, 1, 1)])?;
     reads(&rt, &mut empty, 1, b"-");
     writes(&rt, &mut empty, 1, b"-");

@@ -1,3 +1,3 @@
-pub mod Runs
 pub mod Working
 pub mod Orders
+pub mod Asked

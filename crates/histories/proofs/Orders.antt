@@ -1,10 +1,10 @@
 -- Every history leads to a controller that is in order, and a turn of a busy one leaves fewer turns to make.
-use Rattle.std.proofs.Common.{◌≡◌, ℕ, ◌+◌, ◌<◌, ◌≤◌, true, false, List, [], ◌∷◌, Some, None, Option, sym, refl, ap, ◌∙◌, subst, add-one, arith}
+use Rattle.std.proofs.Common.{◌≡◌, ℕ, zero, suc, ◌+◌, ◌<◌, ◌≤◌, true, false, List, [], ◌∷◌, ◌++◌, Some, None, Option, sym, refl, ap, ◌∙◌, subst, add-one, arith}
 use Rattle.std.proofs.lemmas.Bool.Decides.{nat_tests}
 use Rattle.drive.specs.Model.{DriveModel}
 use Rattle.task_file.specs.declared.registers.Registers.{Registers}
-use Rattle.task_file.specs.declared.registers.Selection.{Selection}
-use Rattle.task_file.specs.declared.registers.Selection.TheVariants.{Winchester, Floppy}
+use Rattle.task_file.specs.declared.bay.Bay.{Bay}
+use Rattle.task_file.specs.declared.bay.Selection.{Selection}
 use Rattle.task_file.specs.declared.state.Job.{Job}
 use Rattle.task_file.specs.declared.state.Job.TheVariants.{Test}
 use Rattle.task_file.specs.declared.state.Phase.{Phase}
@@ -15,12 +15,15 @@ use Rattle.task_file.specs.Registers.{cylinder_of, selected}
 use Rattle.task_file.specs.State.{is_busy}
 use Rattle.task_file.specs.Beginning.{begun}
 use Rattle.task_file.specs.Moving.{drawn, put}
-use Rattle.controller.specs.Model.{ControllerModel, with_state, made, seen_at, seen, turned_in, after_turn}
-use Rattle.histories.specs.declared.call.Call.{Call}
-use Rattle.histories.specs.declared.call.Call.TheVariants as call
-use Rattle.histories.specs.Runs.{called, runs, at, Reached}
-use Rattle.histories.specs.Working.{turns, under_way, Able, Counted, InOrder}
+use Rattle.controller.specs.Turns.{worked}
+use Rattle.controller.specs.Model.{ControllerModel, with_state, with_drive, seen_at, seen, turned_in, after_turn}
+use Rattle.controller.specs.declared.call.Call.{Call}
+use Rattle.controller.specs.declared.call.Call.TheVariants as call
+use Rattle.controller.specs.Runs.{called, runs, IsNew, Reached}
+use Rattle.histories.specs.Working.{turn_calls, turns, under_way, Able, Counted, InOrder, AlwaysInOrder}
 use Rattle.controller.specs.Access.{state_after_read, state_after_write}
+use Rattle.controller.proofs.Runs.{runs_joined}
+use Rattle.task_file.proofs.Bays.{same_bay_self}
 use Rattle.histories.proofs.Working.{able_job, able_none, moves_some, left_in, same_view, advances}
 
 -- ---- calls that are no turns
@@ -51,13 +54,16 @@ module _ (v : Option DriveView) (s : State) (able : Able (under_way s.phase) s.r
 -- ---- turns
 -- the cylinder that the head of the selected drive stands at
 abbrev pub head_in : Option Selection → ControllerModel → ℕ
-head_in (Some (Winchester h)) b = b.winchester.cylinder
-head_in (Some (Floppy h)) b = b.floppy.cylinder
+head_in (Some at) b = (b.drives at.bay).cylinder
 head_in None b = 0
 
 -- at most how many turns a controller has left
 abbrev pub left : ControllerModel → ℕ
 left b = left_in b.state.phase (head_in (selected b.state.registers.sdh) b) (cylinder_of b.state.registers)
+
+-- the drive that is put into a bay is there
+pub drive_put : (b : ControllerModel) (s : State) (bay : Bay) (d : DriveModel) → (with_drive b s bay d).drives bay ≡ d
+drive_put b s bay d = rw (same_bay_self bay) refl
 
 -- what a turn of a busy controller leads to
 pub record Turning (n : ℕ) (e : ControllerModel) : Type 0 where
@@ -67,14 +73,15 @@ pub record Turning (n : ℕ) (e : ControllerModel) : Type 0 where
 turning_in : (j : Job) (sel : Option Selection) (b : ControllerModel) → b.state.phase ≡ Busy j → selected b.state.registers.sdh ≡ sel
     → Able (under_way (Busy j)) b.state.registers (seen_at sel b) → Counted (Busy j) b.state.registers
     → Turning (left_in (Busy j) (head_in sel b) (cylinder_of b.state.registers)) (turned_in (Busy j) sel b)
-turning_in j (Some (Winchester head)) b phase chosen able counted =
-    let on = advances false head b.state b.winchester j phase able counted in
+turning_in j (Some at) b phase chosen able counted =
+    let on = advances at b.state (b.drives at.bay) j phase able counted in
+    let t = worked j b.state at (b.drives at.bay) in
     let same = ap selected on.same_sdh ∙ chosen in
-    record { order = record { able = rw (same, same_view false head b.state b.winchester j) on.able; counted = on.counted }; fewer = rw same on.fewer }
-turning_in j (Some (Floppy head)) b phase chosen able counted =
-    let on = advances true head b.state b.floppy j phase able counted in
-    let same = ap selected on.same_sdh ∙ chosen in
-    record { order = record { able = rw (same, same_view true head b.state b.floppy j) on.able; counted = on.counted }; fewer = rw same on.fewer }
+    let there = drive_put b t.state at.bay t.drive in
+    record {
+      order = record { able = rw (same, there, same_view at b.state (b.drives at.bay) j) on.able; counted = on.counted };
+      fewer = rw (same, ap (λ (d : DriveModel). d.cylinder) there) on.fewer;
+    }
 -- without a drive only Test is under way
 turning_in Test None b phase chosen able counted = record { order = record { able = tt; counted = tt }; fewer = omega arith }
 turning_in j None b phase chosen able counted = absurd (able_none j b.state.registers able (λ e. cc))
@@ -96,8 +103,8 @@ pub order_turn : (b : ControllerModel) → InOrder b → InOrder (after_turn b)
 order_turn b o = (turning_by b.state.phase b refl o).1
 
 -- ---- histories
-pub order_made : (w f : DriveModel) → InOrder (made w f)
-order_made w f = record { able = tt; counted = tt }
+pub order_new : (b : ControllerModel) → IsNew b → InOrder b
+order_new b new = record { able = rw new.is_fresh tt; counted = rw new.is_fresh tt }
 
 pub order_call : (b : ControllerModel) (c : Call) → InOrder b → InOrder (called b c)
 order_call b (call.Read n) o = in_order b _ (orderly_read (seen b) b.state o.able o.counted n)
@@ -112,32 +119,39 @@ order_runs b (c ∷ cs) o = order_runs (called b c) cs (order_call b c o)
 
 -- whatever a history leads to is in order
 pub order_reached : (b : ControllerModel) → Reached b → InOrder b
-order_reached b r = subst InOrder r.leads (order_runs (made r.winchester r.floppy) r.history (order_made r.winchester r.floppy))
+order_reached b r = subst InOrder r.leads (order_runs r.new r.history (order_new r.new r.is_new))
+
+pub always_in_order : AlwaysInOrder
+unfolding AlwaysInOrder
+always_in_order b new history = order_runs b history (order_new b new)
 
 -- where no turn is left, BUSY is off
 pub none_left : (p : Phase) (r : Registers) (at goal : ℕ) → Counted p r → left_in p at goal ≤ 0 → is_busy p ≡ false
 none_left p r at goal counted none = grind arith
 
 -- ---- how many turns there can be
--- the heads stand, and the cylinders end, below a number
+-- each head stands, and the cylinders of each drive end, below a number
 pub record Within (most : ℕ) (b : ControllerModel) : Type 0 where
-  pub winchester_stands : b.winchester.cylinder < most
-  pub winchester_ends : b.winchester.cylinders ≤ most
-  pub floppy_stands : b.floppy.cylinder < most
-  pub floppy_ends : b.floppy.cylinders ≤ most
+  pub stands : (bay : Bay) → (b.drives bay).cylinder < most
+  pub ends : (bay : Bay) → (b.drives bay).cylinders ≤ most
 
 -- a seek over all cylinders but one, and nine attempts
 pub left_most : (most : ℕ) (b : ControllerModel) → Within most b → InOrder b → left b ≤ most + 8
-left_most most b within order = grind (arith, able_job, able_none)
+left_most most b within order = grind (arith, able_job, able_none, within.stands, within.ends)
 
 -- ---- turns one after another
 pub turns_none : (b : ControllerModel) → turns 0 b ≡ b
-unfolding turns
+unfolding runs
 turns_none b = refl
 
 pub turns_more : (b : ControllerModel) (k : ℕ) → turns (k + 1) b ≡ after_turn (turns k b)
-unfolding turns
-turns_more b k = rw (add-one k) refl
+unfolding runs
+turns_more b zero = refl
+turns_more b (suc k) = rw (add-one (suc k)) (rw (add-one k) at (turns_more (after_turn b) k))
+
+-- turns continue the calls that led to where they begin
+pub turns_on : (b : ControllerModel) (history : List Call) (a e : ControllerModel) (k : ℕ) → runs b history ≡ a → e ≡ turns k a → runs b (history ++ turn_calls k) ≡ e
+turns_on b history a e k leads made = runs_joined b history (turn_calls k) ∙ ap (turns k) leads ∙ sym made
 
 -- a controller that is in order, and has so many turns left after those that were made
 pub record Still (b : ControllerModel) (made most : ℕ) : Type 0 where

@@ -9,6 +9,7 @@ use Rattle.drive.specs.declared.answers.WriteError.{WriteError}
 use Rattle.drive.specs.declared.answers.FormatError.{FormatError}
 use Rattle.drive.specs.Model.{DriveModel}
 use Rattle.drive.specs.Calls.{stepped_in, stepped_out, nearer, read_answer, handed_over, after_read, write_answer, after_write, format_answer, after_format}
+use Rattle.task_file.specs.declared.bay.Selection.{Selection}
 use Rattle.task_file.specs.declared.registers.Registers.{Registers}
 use Rattle.task_file.specs.declared.command.Command.TheVariants as command
 use Rattle.task_file.specs.declared.attempts.Verdict.{Verdict}
@@ -84,24 +85,24 @@ pub record Onward (v : DriveView) (s : State) (at n : ℕ) (t : State) : Type 0 
   pub fewer : left_in t.phase at (cylinder_of t.registers) + 1 ≤ n
 
 -- attempts at the cylinder, and a format: one attempt fewer is left, or the job is done
-module _ (v : DriveView) (s : State) (head at : ℕ) where
+module _ (v : DriveView) (s : State) (on : Selection) (at : ℕ) where
   -- only before the ninth attempt another one is made
   again_below : (mode : CheckMode) (j : ReadJob) (o : Result (Option ℕ) ReadError) (previous : Option ℕ) → verdict_of mode j.attempts j.previous o ≡ Retry previous → j.attempts < 8
   again_below mode j o previous again = grind (arith, nat_tests)
 
   verdict_on : (j : ReadJob) → aborts (command.Read j.mode) s.registers (Some v) ≡ false → j.attempts ≤ 8 → (u : Verdict) → ((previous : Option ℕ) → u ≡ Retry previous → j.attempts < 8)
-      → Onward v s at (apart at (cylinder_of s.registers) + (9 - j.attempts)) (read_by u s j head)
+      → Onward v s at (apart at (cylinder_of s.registers) + (9 - j.attempts)) (read_by u s j on)
   unfolding aborts
   verdict_on j able few u again = record { same_sdh = grind arith; able = grind arith; counted = grind (arith, moves_some); fewer = grind (arith, nat_tests) }
 
-  read_on : (j : ReadJob) → aborts (command.Read j.mode) s.registers (Some v) ≡ false → j.attempts ≤ 8 → (a : Result (Unit {0}) ReadError) → Onward v s at (apart at (cylinder_of s.registers) + (9 - j.attempts)) (read_judged a s j head)
+  read_on : (j : ReadJob) → aborts (command.Read j.mode) s.registers (Some v) ≡ false → j.attempts ≤ 8 → (a : Result (Unit {0}) ReadError) → Onward v s at (apart at (cylinder_of s.registers) + (9 - j.attempts)) (read_judged a s j on)
   unfolding read_judged
   read_on j able few a =
       let mode = mode_at s.registers.sdh in
       let shown = outcome_of a j.mode.long mode (size_at s.registers.sdh) s.buffer in
       verdict_on j able few (verdict_of mode j.attempts j.previous shown) (again_below mode j shown)
 
-  write_on : (j : WriteJob) → aborts (command.Write j.mode) s.registers (Some v) ≡ false → j.attempts ≤ 8 → (a : Result (Unit {0}) WriteError) → Onward v s at (apart at (cylinder_of s.registers) + (9 - j.attempts)) (write_judged a s j head)
+  write_on : (j : WriteJob) → aborts (command.Write j.mode) s.registers (Some v) ≡ false → j.attempts ≤ 8 → (a : Result (Unit {0}) WriteError) → Onward v s at (apart at (cylinder_of s.registers) + (9 - j.attempts)) (write_judged a s j on)
   unfolding aborts
   write_on j able few a = record { same_sdh = grind arith; able = grind arith; counted = grind (arith, moves_some); fewer = grind (arith, nat_tests) }
 
@@ -109,15 +110,15 @@ module _ (v : DriveView) (s : State) (head at : ℕ) where
   format_on a = record { same_sdh = grind arith; able = grind arith; counted = grind arith; fewer = grind arith }
 
 -- ---- a turn of a job
-module _ (floppy : Bool) (under : ℕ) (s : State) (d : DriveModel) where
+module _ (on : Selection) (s : State) (d : DriveModel) where
   abbrev v : DriveView
-  v = view_of floppy under d
+  v = view_of on d
 
   abbrev goal : ℕ
   goal = cylinder_of s.registers
 
   -- what is seen of the drive stays
-  pub same_view : (j : Job) → view_of floppy under (worked j s under d).drive ≡ v
+  pub same_view : (j : Job) → view_of on (worked j s on d).drive ≡ v
   unfolding worked stepped_in stepped_out after_read after_write after_format
   same_view j = grind arith
 
@@ -140,7 +141,7 @@ module _ (floppy : Bool) (under : ℕ) (s : State) (d : DriveModel) where
         fewer = rw phase (closer (nearer d goal).cylinder (nearer_by_one d goal has.0 has.1 (eqb-false d.cylinder goal off)));
       })
 
-  pub advances : (j : Job) → s.phase ≡ Busy j → Able (under_way (Busy j)) s.registers (Some v) → Counted (Busy j) s.registers → Advances j (worked j s under d)
+  pub advances : (j : Job) → s.phase ≡ Busy j → Able (under_way (Busy j)) s.registers (Some v) → Counted (Busy j) s.registers → Advances j (worked j s on d)
   unfolding worked aborts stepped_out after_read after_write after_format
   advances Test phase able counted = record { same_sdh = refl; able = tt; counted = tt; fewer = omega arith }
   advances (Restore steps) phase able counted = record { same_sdh = grind arith; able = grind arith; counted = grind (arith, nat_tests); fewer = grind (arith, nat_tests, able_job) }
@@ -148,12 +149,12 @@ module _ (floppy : Bool) (under : ℕ) (s : State) (d : DriveModel) where
   advances (Read j) phase able counted =
       let number = s.registers.number in
       let size = size_at s.registers.sdh in
-      let act = read_on v (with_buffer s (handed_over d under number size s.buffer)) under d.cylinder j able counted (read_answer d under number size) in
-      seeking (Read j) (read_act s j under d) phase (λ e. cc) able counted (λ e h. omega arith)
+      let act = read_on v (with_buffer s (handed_over d on.head number size s.buffer)) on d.cylinder j able counted (read_answer d on.head number size) in
+      seeking (Read j) (read_act s j on d) phase (λ e. cc) able counted (λ e h. omega arith)
       (record { same_sdh = act.same_sdh; able = act.able; counted = act.counted; fewer = act.fewer }) (grind arith)
   advances (Write j) phase able counted =
-      seeking (Write j) (write_act s j under d) phase (λ e. cc) able counted (λ e h. omega arith)
-      (write_on v s under d.cylinder j able counted (write_answer d under s.registers.number (size_at s.registers.sdh))) (grind arith)
+      seeking (Write j) (write_act s j on d) phase (λ e. cc) able counted (λ e h. omega arith)
+      (write_on v s on d.cylinder j able counted (write_answer d on.head s.registers.number (size_at s.registers.sdh))) (grind arith)
   advances Format phase able counted =
-      seeking Format (format_act s under d) phase (λ e. cc) able counted (λ e h. omega arith)
-      (format_on v s under d.cylinder (format_answer d under (ids_asked s) (size_at s.registers.sdh))) (grind arith)
+      seeking Format (format_act s on d) phase (λ e. cc) able counted (λ e h. omega arith)
+      (format_on v s on d.cylinder (format_answer d on.head (ids_asked s) (size_at s.registers.sdh))) (grind arith)

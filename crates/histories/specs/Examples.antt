@@ -5,11 +5,14 @@ use Rattle.sector.specs.Bits.{marked}
 use Rattle.check_code.specs.Code.{Code, crc_code, ecc_code, check_bytes_of}
 use Rattle.check_code.specs.Examples.{Examples}
 use Rattle.drive.specs.Model.{Sector, Showing, no_id, wrong_bits, intact, DriveModel}
+use Rattle.task_file.specs.declared.bay.Bay.{Bay}
+use Rattle.task_file.specs.declared.bay.Bay.TheVariants.{Winchester1}
+use Rattle.task_file.specs.Bays.{same_bay}
 use Rattle.controller.specs.declared.access.Refusal.{Refusal}
-use Rattle.controller.specs.Model.{ControllerModel, read_answered}
-use Rattle.histories.specs.declared.call.Call.{Call}
-use Rattle.histories.specs.declared.call.Call.TheVariants.{Write, Turn}
-use Rattle.histories.specs.Runs.{at}
+use Rattle.controller.specs.Model.{ControllerModel, made, read_answered}
+use Rattle.controller.specs.declared.call.Call.{Call}
+use Rattle.controller.specs.declared.call.Call.TheVariants.{Write, Turn}
+use Rattle.controller.specs.Runs.{runs}
 
 -- ---- drives for the examples
 -- a ready drive of four cylinders and one head, by its room, its head's cylinder, its only track and what its attempts show
@@ -46,9 +49,13 @@ abbrev pub burst_after_no_id : ℕ → Showing
 burst_after_no_id k = cond (nat_lt k 1) no_id (wrong_bits (marked 0 1))
 
 -- ---- what the host does and sees
--- the host's calls on a controller over such a drive, and another beside it, after Test has ended
+-- a drive in Winchester 1, and in every other bay one that is undamaged and has no sectors
+abbrev pub in_winchester_1 : DriveModel → Bay → DriveModel
+in_winchester_1 d bay = cond (same_bay bay Winchester1) d (example_drive 0 0 [] undamaged)
+
+-- the host's calls on a controller over these drives, after Test has ended
 abbrev pub after : DriveModel → List Call → ControllerModel
-after d calls = at d (example_drive 0 0 [] undamaged) (Turn ∷ calls)
+after d calls = runs (made (in_winchester_1 d)) (Turn ∷ calls)
 
 -- what a status read answers
 abbrev pub status : ControllerModel → Result ℕ Refusal
@@ -74,10 +81,12 @@ format_64 = Write 2 64 ∷ Write 6 0x60 ∷ Write 7 0x50 ∷ []
 pub record WorkedExamples : Type 0 where
   -- of the check codes
   pub codes : Examples
-  -- a new controller reads 80h; after one turn 50h, over a drive that is ready and unprotected; with SDH 08h, 00h
-  pub new_controller : (w f : DriveModel) → status (at w f []) ≡ Ok 0x80
-  pub after_one_turn : (w f : DriveModel) → w.ready ≡ true → w.protected ≡ false → status (at w f (Turn ∷ [])) ≡ Ok 0x50
-  pub no_drive_selected : (w f : DriveModel) → status (at w f (Turn ∷ Write 6 0x08 ∷ [])) ≡ Ok 0x00
+  -- a new controller reads 80h; after one turn 50h, where Winchester 1 is ready and unprotected; with SDH 08h, 00h
+  pub new_controller : (drives : Bay → DriveModel) → status (made drives) ≡ Ok 0x80
+  pub after_one_turn :
+      (drives : Bay → DriveModel) → (drives Winchester1).ready ≡ true → (drives Winchester1).protected ≡ false
+      → status (runs (made drives) (Turn ∷ [])) ≡ Ok 0x50
+  pub no_drive_selected : (drives : Bay → DriveModel) → status (runs (made drives) (Turn ∷ Write 6 0x08 ∷ [])) ≡ Ok 0x00
   -- Restore from cylinder 3 ends on the fourth turn
   pub restore_busy : status (after (example_drive 0 3 [] undamaged) (Write 7 0x10 ∷ so_many 3 Turn)) ≡ Ok 0x80
   pub restore_ends : status (after (example_drive 0 3 [] undamaged) (Write 7 0x10 ∷ so_many 4 Turn)) ≡ Ok 0x50

@@ -1,31 +1,30 @@
 //! A list of calls, made one after another.
 ghost use Rattle.std.specs.Prelude.{◌≡◌, MatchResult};
-ghost use Rattle.controller.specs.Model.{model_of};
-ghost use Rattle.histories.specs.Runs.{runs, answers, Continues};
+ghost use Rattle.controller.specs.Controller.{model_of};
+ghost use Rattle.controller.specs.Runs.{runs, answers, Continues};
 
-use super::call::{Answer, Call, make_call};
-use controller::Controller;
+use controller::{Answer, Call, Controller, make_call};
 use drive::Drive;
 use std::alloc::{AllocError, Global};
 
 /// Makes the calls, and hands back every answer. Room for the answers is had first: where memory is
 /// wanting, no call is made.
-#[tactic(auto, using(crate::proofs::Runs::steps))]
-pub fn run<W: Drive, F: Drive>(
-    controller: &mut Controller<W, F>,
+#[tactic(auto, using(controller::proofs::Runs::steps))]
+pub fn run<D: Drive>(
+    controller: &mut Controller<D>,
     heap: Global,
     calls: &[Call],
 ) -> Result<Vec<Answer>, AllocError>
     ensures answers { MatchResult result
-        (λ v. v.items ≡ answers (model_of W.meaning F.meaning controller.old) calls.now)
+        (λ v. v.items ≡ answers (model_of D.meaning controller.old) calls.now)
         (λ _. controller.new ≡ controller.old) }
     ensures after { MatchResult result
-        (λ _. model_of W.meaning F.meaning controller.new
-        ≡ runs (model_of W.meaning F.meaning controller.old) calls.now)
+        (λ _. model_of D.meaning controller.new
+        ≡ runs (model_of D.meaning controller.old) calls.now)
         (λ _. controller.new ≡ controller.old) }
     ensures history { MatchResult result
-        (λ _. Continues (model_of W.meaning F.meaning controller.old) calls.now
-        (model_of W.meaning F.meaning controller.new))
+        (λ _. Continues (model_of D.meaning controller.old) calls.now
+        (model_of D.meaning controller.new))
         (λ _. controller.new ≡ controller.old) }
 {
     let mut answers = Vec::with_capacity(heap, calls.len())?;

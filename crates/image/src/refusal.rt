@@ -3,7 +3,8 @@ ghost use Rattle.std.specs.Prelude.{◌≡◌};
 ghost use Rattle.image.specs.Image.{refusal_number};
 ghost use Rattle.image.specs.Refusals.{bay_of};
 
-use drive::{Bay, Drive};
+use drive::{Drive, EmptyBay};
+use either::Either;
 use thiserror::Error;
 
 /// What is out of range, in the order of asking.
@@ -35,13 +36,12 @@ pub struct Refused {
     pub memory: Vec<u8>,
 }
 
-/// The bay that an image was made for: with it, or without a drive and with the memory that came
-/// for it.
-pub fn fitted<D: Drive>(made: Result<D, Refused>) -> Bay<D>
+/// The image that was made, or a bay without a drive, with the memory that came for one.
+pub fn fitted<D: Drive>(made: Result<D, Refused>) -> Either<D, EmptyBay>
     ensures { result ≡ bay_of made }
 {
     match made {
-        Ok(drive) => Bay::Fitted(drive),
-        Err(refused) => Bay::Empty(refused.memory),
+        Ok(drive) => Either::Left(drive),
+        Err(refused) => Either::Right(EmptyBay::new(refused.memory)),
     }
 }

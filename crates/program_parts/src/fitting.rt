@@ -3,7 +3,7 @@ ghost use Rattle.std.specs.Prelude.{IfOk};
 ghost use Rattle.program_parts.specs.Winchester.{IsBlank};
 
 use anyhow::anyhow;
-use drive::{Bay, Geometry};
+use drive::Geometry;
 use image::{Refusal, WinchesterImage, blank_memory};
 use std::alloc::Global;
 
@@ -24,17 +24,17 @@ fn told(heap: Global, why: Refusal) -> anyhow::Result<anyhow::Error> {
     Ok(anyhow!(format!(in heap; "image refused: {number}, {why}")?))
 }
 
-/// An image of these measures in its bay, over zeros, or why it is refused. The measures are judged
-/// before memory is asked for, since wrong ones may ask for more than there is.
-pub fn winchester(rt: &HostRuntime, geometry: Geometry) -> anyhow::Result<Bay<WinchesterImage>>
-    ensures { IfOk result (λ b. IsBlank geometry b) }
+/// An image of these measures over zeros, or why it is refused. The measures are judged before
+/// memory is asked for, since wrong ones may ask for more than there is.
+pub fn winchester(rt: &HostRuntime, geometry: Geometry) -> anyhow::Result<WinchesterImage>
+    ensures { IfOk result (λ image. IsBlank geometry image) }
 {
     if let Some(why) = refusal_of(rt.alloc(), geometry) {
         return Err(told(rt.alloc(), why)?);
     }
     let memory = blank_memory(rt.alloc(), geometry)?;
     match WinchesterImage::new(geometry, false, memory) {
-        Ok(image) => Ok(Bay::Fitted(image)),
+        Ok(image) => Ok(image),
         Err(refused) => Err(told(rt.alloc(), refused.refusal)?),
     }
 }

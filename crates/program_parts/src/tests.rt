@@ -63,7 +63,7 @@ fn faults_over_a_winchester(rt: HostRuntime) {
         kind: FaultKind::NoId,
         attempts: 1,
     }];
-    let Ok(bay) = winchester(&rt, SMALL) else {
+    let Ok(drive) = winchester(&rt, SMALL) else {
         assert!(rt; false, "the Winchester is refused");
         return;
     };
@@ -71,7 +71,7 @@ fn faults_over_a_winchester(rt: HostRuntime) {
         assert!(rt; false, "the records have no places");
         return;
     };
-    let mut table = FaultTable::over(bay);
+    let mut table = FaultTable::over(drive);
     assert!(rt; lay(&rt, &mut table, &places, [&row, &row, &row, &row]).is_ok());
 }
 

@@ -16,7 +16,7 @@ use Rattle.task_file.specs.Beginning.{begun}
 use Rattle.task_file.specs.Moving.{put, put_in}
 use Rattle.controller.specs.declared.access.Refusal.TheVariants as refusal
 use Rattle.controller.specs.Access.{is_data, is_status, write_refusal, answered, unless_refused, at_register, begun_by, write_effect, write_answer_of, state_after_write}
-use Rattle.histories.specs.Runs.{write_as}
+use Rattle.controller.specs.Runs.{write_as}
 use Rattle.round_trip.specs.Events.{is_done}
 
 -- a write leaves the state, takes a byte, begins a command, or keeps a byte at rest

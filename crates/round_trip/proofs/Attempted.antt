@@ -14,6 +14,7 @@ use Rattle.burst.specs.Search.{set_of, first_burst}
 use Rattle.drive.specs.declared.buffer.SectorBuffer.{SectorBuffer}
 use Rattle.drive.specs.Model.{Sector, no_sector, Showing, no_id, no_data_mark, wrong_bits, DriveModel}
 use Rattle.drive.specs.Calls.{track_under, shown as next_shown, read_answer, handed_over}
+use Rattle.task_file.specs.declared.bay.Selection.{Selection}
 use Rattle.task_file.specs.declared.registers.Registers.{Registers}
 use Rattle.task_file.specs.declared.command.ReadMode.{ReadMode}
 use Rattle.task_file.specs.declared.failure.Failure.{Failure}
@@ -89,7 +90,7 @@ module _ (mode : CheckMode) (size : SizeCode) (bytes : List ℕ) (long : length 
       failed : (bad ≡ false → (8 ≤ k) × (settles k → ⊥)) → is_some t.failure ≡ true → is_busy t.phase ≡ false → (requests t.phase ≡ true → t.phase ≡ Offering m 0)
           → (m.multiple ≡ false → requests t.phase ≡ true) → Tried k bad r o t
 
-    module _ (k : ℕ) (few : k < 9) (bad : Bool) (s : State) (head : ℕ)
+    module _ (k : ℕ) (few : k < 9) (bad : Bool) (s : State) (on : Selection)
         (front : (w : BitSet) → shows k ≡ wrong_bits w → bad ≡ false → take (bytes_of size) s.buffer.bytes ≡ inverted w bytes)
         (same_size : size_at s.registers.sdh ≡ size) where
       abbrev job : ReadJob
@@ -133,7 +134,7 @@ module _ (mode : CheckMode) (size : SizeCode) (bytes : List ℕ) (long : length 
               let at_front = front w is unmarked in
               (f.0, (ap (first_burst size) (sym same) ∙ f.1.0, ap (inverted (set_of f.0)) at_front ∙ f.1.1, ap length at_front ∙ length-inverted w bytes ∙ long))
 
-      tried_by : (v : Verdict) → Judged mode size bytes long shows k bad v → Tried k bad s.registers s.failure (read_by v s job head)
+      tried_by : (v : Verdict) → Judged mode size bytes long shows k bad v → Tried k bad s.registers s.failure (read_by v s job on)
       tried_by Take (taken unmarked e) = taken_state (inl e) unmarked s (clean_front unmarked e) refl refl
       tried_by (Correct _) (corrected d unmarked c e) =
           let f = mended_front d unmarked c e in
@@ -144,27 +145,27 @@ module _ (mode : CheckMode) (size : SizeCode) (bytes : List ℕ) (long : length 
           (subst (λ z. Tried k bad s.registers s.failure (sector_taken (with_corrected s (mended_buffer (bytes_of z) f.0 s.buffer)) m)) (sym same_size)
           (taken_state (inr c) unmarked (with_corrected s (mended_buffer (bytes_of size) f.0 s.buffer)) (at_front ∙ f.1.1) refl refl))
       tried_by (Retry _) (tries_again under settles_not) = again under settles_not refl refl (grind arith)
-      tried_by (Fail _) (given_up e all settles_not) = failed_state (λ unmarked. (all, settles_not)) (sector_failure s.registers head k e)
-      tried_by (Fail _) (marked e is) = failed_state (λ unmarked. cc) (sector_failure s.registers head k e)
+      tried_by (Fail _) (given_up e all settles_not) = failed_state (λ unmarked. (all, settles_not)) (sector_failure s.registers on k e)
+      tried_by (Fail _) (marked e is) = failed_state (λ unmarked. cc) (sector_failure s.registers on k e)
       tried_by Abort j = elim j [ ]
 
     -- an attempt at that sector, on a ready drive on whose track it stands as it was written
-    module _ (d : DriveModel) (head number : ℕ) (s : State) (ready : d.ready ≡ true) (plain : m.long ≡ false)
-        (stands : Stands (track_under d head) number size bytes (check_bytes_of (code_of mode) bytes))
+    module _ (d : DriveModel) (on : Selection) (number : ℕ) (s : State) (ready : d.ready ≡ true) (plain : m.long ≡ false)
+        (stands : Stands (track_under d on.head) number size bytes (check_bytes_of (code_of mode) bytes))
         (same_mode : mode_at s.registers.sdh ≡ mode) (same_size : size_at s.registers.sdh ≡ size) where
-      pub tried : (k : ℕ) → k < 9 → (bad : Bool) → next_shown d head number ≡ shows k → (get_or (track_under d head) stands.slot no_sector).bad ≡ bad
+      pub tried : (k : ℕ) → k < 9 → (bad : Bool) → next_shown d on.head number ≡ shows k → (get_or (track_under d on.head) stands.slot no_sector).bad ≡ bad
           → Tried k bad s.registers s.failure
-          (read_judged (read_answer d head number (size_at s.registers.sdh)) (with_buffer s (handed_over d head number (size_at s.registers.sdh) s.buffer))
-          (record { mode = m; attempts = k; previous = remembered mode size bytes long shows k }) head)
+          (read_judged (read_answer d on.head number (size_at s.registers.sdh)) (with_buffer s (handed_over d on.head number (size_at s.registers.sdh) s.buffer))
+          (record { mode = m; attempts = k; previous = remembered mode size bytes long shows k }) on)
       unfolding read_judged
       tried k few bad is_shown is_bad =
           let j : ReadJob = record { mode = m; attempts = k; previous = remembered mode size bytes long shows k } in
-          let b = handed_over d head number size s.buffer in
-          let outcome : outcome_of (read_answer d head number size) m.long mode size b ≡ outcome_by mode size bytes long shows (shows k) bad =
-          ap (λ l. outcome_of (read_answer d head number size) l mode size b) plain ∙ outcome_is d head number s.buffer ready stands shows (shows k) bad is_shown is_bad in
+          let b = handed_over d on.head number size s.buffer in
+          let outcome : outcome_of (read_answer d on.head number size) m.long mode size b ≡ outcome_by mode size bytes long shows (shows k) bad =
+          ap (λ l. outcome_of (read_answer d on.head number size) l mode size b) plain ∙ outcome_is d on.head number s.buffer ready stands shows (shows k) bad is_shown is_bad in
           let front : (w : BitSet) → shows k ≡ wrong_bits w → bad ≡ false → take (bytes_of size) b.bytes ≡ inverted w bytes =
-          λ w is unmarked. handed_bytes d head number s.buffer ready stands w (is_shown ∙ is) (is_bad ∙ unmarked) in
-          let by = tried_by k few bad (with_buffer s b) head front same_size _ (judged mode size bytes long shows k bad) in
-          subst (λ z. Tried k bad s.registers s.failure (read_by (verdict_of (mode_at s.registers.sdh) k j.previous (outcome_of (read_answer d head number z) m.long (mode_at s.registers.sdh) z (handed_over d head number z s.buffer))) (with_buffer s (handed_over d head number z s.buffer)) j head)) (sym same_size)
-          (subst (λ c. Tried k bad s.registers s.failure (read_by (verdict_of c k j.previous (outcome_of (read_answer d head number size) m.long c size b)) (with_buffer s b) j head)) (sym same_mode)
-          (subst (λ o. Tried k bad s.registers s.failure (read_by (verdict_of mode k j.previous o) (with_buffer s b) j head)) (sym outcome) by))
+          λ w is unmarked. handed_bytes d on.head number s.buffer ready stands w (is_shown ∙ is) (is_bad ∙ unmarked) in
+          let by = tried_by k few bad (with_buffer s b) on front same_size _ (judged mode size bytes long shows k bad) in
+          subst (λ z. Tried k bad s.registers s.failure (read_by (verdict_of (mode_at s.registers.sdh) k j.previous (outcome_of (read_answer d on.head number z) m.long (mode_at s.registers.sdh) z (handed_over d on.head number z s.buffer))) (with_buffer s (handed_over d on.head number z s.buffer)) j on)) (sym same_size)
+          (subst (λ c. Tried k bad s.registers s.failure (read_by (verdict_of c k j.previous (outcome_of (read_answer d on.head number size) m.long c size b)) (with_buffer s b) j on)) (sym same_mode)
+          (subst (λ o. Tried k bad s.registers s.failure (read_by (verdict_of mode k j.previous o) (with_buffer s b) j on)) (sym outcome) by))

@@ -4,8 +4,7 @@ use Rattle.std.proofs.lemmas.Bool.{and_from, not_from_false}
 use Rattle.std.proofs.lemmas.Bool.Decides.{nat_tests}
 use Rattle.task_file.specs.declared.command.Command.TheVariants as command
 use Rattle.task_file.specs.declared.command.ReadMode.{ReadMode}
-use Rattle.task_file.specs.declared.registers.Selection.{Selection}
-use Rattle.task_file.specs.declared.registers.Selection.TheVariants.{Winchester, Floppy}
+use Rattle.task_file.specs.declared.bay.Selection.{Selection}
 use Rattle.task_file.specs.declared.state.Job.TheVariants.{Read}
 use Rattle.task_file.specs.declared.state.ReadJob.{ReadJob}
 use Rattle.task_file.specs.declared.state.Phase.{Phase}
@@ -18,12 +17,12 @@ use Rattle.task_file.specs.Beginning.{begun}
 use Rattle.task_file.specs.Moving.{drawn, put}
 use Rattle.controller.specs.Access.{state_after_read}
 use Rattle.controller.specs.Model.{ControllerModel, view_of, seen_at, seen}
-use Rattle.histories.specs.declared.call.Call.{Call}
-use Rattle.histories.specs.declared.call.Call.TheVariants as call
-use Rattle.histories.specs.Runs.{called}
+use Rattle.controller.specs.declared.call.Call.{Call}
+use Rattle.controller.specs.declared.call.Call.TheVariants as call
+use Rattle.controller.specs.Runs.{called}
 use Rattle.histories.specs.Working.{under_way, Able, InOrder}
 use Rattle.histories.proofs.Working.{able_job, able_none}
-use Rattle.round_trip.specs.Events.{busy, accepts, busy_comes_on, winchester, floppy, drive_in, SectorName, sector_named}
+use Rattle.round_trip.specs.Events.{busy, accepts, busy_comes_on, SectorName, sector_named}
 use Rattle.round_trip.specs.Ledger.{Notes}
 use Rattle.round_trip.specs.Laws.{sector_now, named_by}
 use Rattle.round_trip.proofs.Accessed as access
@@ -66,12 +65,11 @@ read_in_force n b m kept forced on = by_phase b.state.phase refl kept.agrees on
 
 -- the drive of a sector is ready, and has the registers' cylinder
 abbrev pub InReach : ControllerModel → SectorName → Type 0
-InReach b name = ((drive_in name.track.bay b).ready ≡ true) × (cylinder_of b.state.registers < (drive_in name.track.bay b).cylinders)
+InReach b name = ((b.drives name.track.bay).ready ≡ true) × (cylinder_of b.state.registers < (b.drives name.track.bay).cylinders)
 
 selected_has : (sel : Option Selection) (b : ControllerModel) (j : ReadJob) → Able (Some (command.Read j.mode)) b.state.registers (seen_at sel b)
     → (name : SectorName) × ((named_by sel b ≡ Some name) × InReach b name)
-selected_has (Some (Winchester head)) b j able = (sector_named winchester head b.state.registers, (refl, able_job (Read j) b.state.registers (view_of false head b.winchester) able (λ e. cc)))
-selected_has (Some (Floppy head)) b j able = (sector_named floppy head b.state.registers, (refl, able_job (Read j) b.state.registers (view_of true head b.floppy) able (λ e. cc)))
+selected_has (Some at) b j able = (sector_named at b.state.registers, (refl, able_job (Read j) b.state.registers (view_of at (b.drives at.bay)) able (λ e. cc)))
 selected_has None b j able = absurd (able_none (Read j) b.state.registers able (λ e. cc))
 
 -- SDH selects a drive, and so the registers name a sector

@@ -13,9 +13,9 @@ use Rattle.task_file.specs.Registers.{size_at}
 use Rattle.task_file.specs.Moving.{drawn}
 use Rattle.controller.specs.Access.{read_answer_of, state_after_read}
 use Rattle.controller.specs.Model.{ControllerModel, seen}
-use Rattle.histories.specs.declared.call.Call.{Call}
-use Rattle.histories.specs.declared.call.Call.TheVariants as call
-use Rattle.histories.specs.Runs.{byte_read, answer_to, called, runs}
+use Rattle.controller.specs.declared.call.Call.{Call}
+use Rattle.controller.specs.declared.call.Call.TheVariants as call
+use Rattle.controller.specs.Runs.{byte_read, answer_to, called, runs}
 use Rattle.round_trip.specs.Events.{drq, accepts}
 use Rattle.round_trip.specs.Laws.{DrqThroughout, draws, drawn_in}
 use Rattle.round_trip.proofs.Accessed as access

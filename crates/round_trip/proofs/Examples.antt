@@ -1,12 +1,15 @@
 -- The premises that the example meets, computed from the definitions, and what the laws then say of it.
 use Rattle.std.proofs.Common.{◌≡◌, ℕ, ◌+◌, ◌<◌, Bool, true, not, ◌&&◌, cond, List, [], ◌++◌, ◌∷◌, length, map, replicate, refl, inl, inr, arith, eqb}
-use Rattle.std.proofs.lemmas.Bool.{cases_Bool, and_parts, not-true}
+use Rattle.std.proofs.lemmas.Bool.{cases_Bool, cond_both, and_parts, not-true}
 use Rattle.sector.specs.Bits.{marked, OneBurst}
 use Rattle.check_code.specs.declared.mode.CheckMode.TheVariants.{Ecc}
 use Rattle.burst.specs.Search.{first_below, first_burst}
 use Rattle.burst.proofs.Patterns.{marked_burst}
 use Rattle.drive.specs.Model.{Sector, Showing}
+use Rattle.drive.specs.Bounds.{ADrive}
 use Rattle.drive.specs.Calls.{stepped_in, stepped_out, read_answer, handed_over, after_read, write_answer, after_write, format_answer, after_format}
+use Rattle.task_file.specs.declared.bay.Bay.TheVariants.{Winchester1}
+use Rattle.task_file.specs.Bays.{same_bay}
 use Rattle.task_file.specs.Commands.{command_of}
 use Rattle.task_file.specs.Aborting.{aborts}
 use Rattle.task_file.specs.Beginning.{begun}
@@ -15,14 +18,14 @@ use Rattle.task_file.specs.Attempts.{read_judged}
 use Rattle.controller.specs.Access.{read_answer_of, state_after_read, write_answer_of, state_after_write}
 use Rattle.controller.specs.Model.{ControllerModel}
 use Rattle.controller.specs.Turns.{worked}
-use Rattle.histories.specs.declared.call.Call.{Call}
-use Rattle.histories.specs.declared.call.Call.TheVariants as call
-use Rattle.histories.specs.Runs.{byte_read, called, runs, answers}
+use Rattle.controller.specs.declared.call.Call.{Call}
+use Rattle.controller.specs.declared.call.Call.TheVariants as call
+use Rattle.controller.specs.Runs.{byte_read, called, runs, answers}
 use Rattle.histories.specs.Examples.{example_drive, undamaged}
 use Rattle.round_trip.specs.Events.{drq, accepts, event_of}
 use Rattle.round_trip.specs.Ledger.{notes_from}
-use Rattle.round_trip.specs.Laws.{ADrive, Mild, used_bits, DrqThroughout}
-use Rattle.round_trip.specs.Examples.{disk, beside, shows, sheet, place, writing, before, reading, mode, waiting, drawing, offered, PremisesMet, SheetReadBack}
+use Rattle.round_trip.specs.Laws.{Mild, used_bits, DrqThroughout}
+use Rattle.round_trip.specs.Examples.{new, shows, sheet, place, writing, before, reading, mode, waiting, drawing, offered, PremisesMet, SheetReadBack}
 use Rattle.round_trip.proofs.Laws.{same_bytes, clean_exactly_when}
 
 -- ---- the drives
@@ -73,8 +76,11 @@ computed : PremisesMet × (answers offered (replicate 128 (call.Read 0)) ≡ map
 unfolding runs answers command_of aborts begun drawn put read_judged read_answer_of state_after_read write_answer_of state_after_write worked stepped_in stepped_out read_answer handed_over after_read write_answer after_write format_answer after_format first_below first_burst event_of notes_from asks
 computed = (
   record {
-    disk_is = is_drive 8192 0 shows (omega arith);
-    beside_is = is_drive 0 0 undamaged (omega arith);
+    is_new =
+        record {
+          is_fresh = refl;
+          a_drive = λ bay. cond_both (same_bay bay Winchester1) _ _ ADrive (λ _. is_drive 8192 0 shows (omega arith)) (λ _. is_drive 0 0 undamaged (omega arith));
+        };
     busy_on = refl;
     plain_read =
         record {
@@ -107,8 +113,8 @@ premises_met = computed.0
 by_laws : PremisesMet → SheetReadBack
 by_laws p =
     let drawn_too = before ++ (reading ∷ waiting ++ (call.Turn ∷ drawing ++ (call.Read 0 ∷ []))) in
-    let gives = same_bytes disk beside p.disk_is p.beside_is drawn_too before reading waiting drawing [] mode place writing refl p.busy_on p.plain_read p.waits p.raises p.asks p.no_error in
-    let raised = clean_exactly_when disk beside p.disk_is p.beside_is (before ++ (reading ∷ waiting ++ (call.Turn ∷ []))) before 0x20 (waiting ++ (call.Turn ∷ [])) mode place writing refl p.accepted p.not_aborted p.plain_read p.single in
+    let gives = same_bytes new p.is_new drawn_too before reading waiting drawing [] mode place writing refl p.busy_on p.plain_read p.waits p.raises p.asks p.no_error in
+    let raised = clean_exactly_when new p.is_new (before ++ (reading ∷ waiting ++ (call.Turn ∷ []))) before 0x20 (waiting ++ (call.Turn ∷ [])) mode place writing refl p.accepted p.not_aborted p.plain_read p.single in
     record {
       last_byte = gives.1;
       clean = (raised.0 waiting [] refl p.waits p.raises).1 p.stands p.readable;

@@ -1,56 +1,55 @@
 -- The invariant of all histories, with what is noted of them, and that every call keeps it.
 use Rattle.std.proofs.Common.{◌≡◌, ℕ, zero, suc, ◌+◌, ◌*◌, ◌≤◌, min, lit≤, slice_index, Bool, true, false, cond, not, ◌&&◌, eqb, List, [], ◌∷◌, ◌++◌, length, take, Option, sym, refl, ap, ◌∙◌, subst, inl, Some, None, arith}
 use Rattle.std.proofs.lemmas.List.{length-take-le, get_or-take}
-use Rattle.std.proofs.lemmas.Bool.{not-true}
+use Rattle.std.proofs.lemmas.Bool.{not-true, cond_both}
 use Rattle.sector.specs.declared.size.SizeCode.{SizeCode}
 use Rattle.sector.specs.declared.size.SizeCode.TheVariants.{Bytes256, Bytes512, Bytes1024, Bytes128}
 use Rattle.sector.specs.Sizes.{bytes_of}
 use Rattle.sector.proofs.Sizes.{bytes_most}
 use Rattle.drive.specs.Model.{DriveModel}
-use Rattle.task_file.specs.declared.registers.Selection.{Selection}
-use Rattle.task_file.specs.declared.registers.Selection.TheVariants.{Winchester, Floppy}
+use Rattle.task_file.specs.declared.bay.Bay.{Bay}
+use Rattle.task_file.specs.declared.bay.Selection.{Selection}
 use Rattle.task_file.specs.declared.command.Command.{Command}
 use Rattle.task_file.specs.declared.state.Job.{Job}
 use Rattle.task_file.specs.declared.state.Job.TheVariants.{Write, Format}
 use Rattle.task_file.specs.declared.state.Phase.{Phase}
 use Rattle.task_file.specs.declared.state.Phase.TheVariants.{Busy}
 use Rattle.task_file.specs.declared.state.State.{State}
+use Rattle.task_file.specs.Bays.{same_bay}
 use Rattle.task_file.specs.Registers.{size_at, mode_at, selected, sector_count}
 use Rattle.task_file.specs.Moving.{put}
 use Rattle.task_file.specs.Attempts.{ids_of}
 use Rattle.task_file.specs.Commands.{command_of}
 use Rattle.task_file.specs.State.{is_busy, requests}
 use Rattle.controller.specs.Turns.{Turned, worked, without_drive}
-use Rattle.controller.specs.Model.{ControllerModel, model, with_state, made, seen, turned_in}
-use Rattle.histories.specs.declared.call.Call.{Call}
-use Rattle.histories.specs.declared.call.Call.TheVariants as call
-use Rattle.histories.specs.Runs.{called, runs, at}
+use Rattle.controller.specs.Model.{ControllerModel, with_state, with_drive, seen, turned_in}
+use Rattle.controller.specs.declared.call.Call.{Call}
+use Rattle.controller.specs.declared.call.Call.TheVariants as call
+use Rattle.controller.specs.Runs.{called, runs, IsNew}
 use Rattle.histories.specs.Working.{InOrder}
-use Rattle.histories.proofs.Orders.{order_call, order_made}
-use Rattle.round_trip.specs.Events.{sector_named, Bay, winchester, floppy, same_bay, drive_in, TrackName, Event, nothing, sector_written, turn_event_on, turn_event, event_of}
+use Rattle.histories.proofs.Orders.{order_call, order_new, drive_put}
+use Rattle.round_trip.specs.Events.{sector_named, TrackName, Event, nothing, sector_written, turn_event_on, turn_event, event_of}
 use Rattle.round_trip.specs.Ledger.{entered, Notes, no_notes, noted, notes_from, notes_of}
-use Rattle.round_trip.specs.Laws.{track_of, ADrive}
+use Rattle.round_trip.specs.Laws.{track_of}
 use Rattle.round_trip.proofs.Sound.{Sound, Buffered, sound_drive}
 use Rattle.round_trip.proofs.Accessed as access
 use Rattle.round_trip.proofs.Kept.{TakenFits, Kept, news, taken_now, turn_taken, kept_same, kept_read, kept_put, kept_begun}
 use Rattle.round_trip.proofs.Turned.{Changes, Leaves, formatted_event, job_event, turned_result}
-use Rattle.round_trip.proofs.Ledgers.{LedgerHeld, track_same, ledger_same, FitsEvent, ledger_after}
+use Rattle.round_trip.proofs.Ledgers.{LedgerHeld, ledger_same, FitsEvent, ledger_after}
 
 -- The invariant: in order; sound drives; a kept state; and each plain entry of the ledger stands on its track.
 pub record Held (n : Notes) (b : ControllerModel) : Type 0 where
   pub order : InOrder b
-  pub winchester_sound : Sound b.winchester
-  pub floppy_sound : Sound b.floppy
+  pub sound : (bay : Bay) → Sound (b.drives bay)
   pub kept : Kept n.taken n.in_force b.state
   pub ledger : LedgerHeld b n.ledger
 
-pub held_made : (w f : DriveModel) → ADrive w → ADrive f → Held no_notes (made w f)
-held_made w f aw af =
+pub held_made : (new : ControllerModel) → IsNew new → Held no_notes new
+held_made new is_new =
     record {
-      order = order_made w f;
-      winchester_sound = sound_drive w aw;
-      floppy_sound = sound_drive f af;
-      kept = record { buffered = record { bytes_long = refl; check_long = refl }; fits = tt; agrees = inl refl };
+      order = order_new new is_new;
+      sound = λ bay. sound_drive (new.drives bay) (is_new.a_drive bay);
+      kept = rw is_new.is_fresh (record { buffered = record { bytes_long = refl; check_long = refl }; fits = tt; agrees = inl refl });
       ledger = λ name x is plain. cc;
     }
 
@@ -60,10 +59,9 @@ unfolding event_of
 held_read n b number h =
     record {
       order = order_call b (call.Read number) h.order;
-      winchester_sound = h.winchester_sound;
-      floppy_sound = h.floppy_sound;
+      sound = h.sound;
       kept = kept_read n.taken n.in_force b.state number h.kept;
-      ledger = ledger_same b (called b (call.Read number)) n.ledger (track_same b _) h.ledger;
+      ledger = ledger_same b (called b (call.Read number)) n.ledger (λ t. refl) h.ledger;
     }
 
 -- the state and the notes after a write, by what it came to
@@ -84,10 +82,9 @@ unfolding event_of
 held_write n b number byte h =
     record {
       order = order_call b (call.Write number byte) h.order;
-      winchester_sound = h.winchester_sound;
-      floppy_sound = h.floppy_sound;
+      sound = h.sound;
       kept = write_kept_by n b number byte h _ _ (access.accessed b.state (seen b) byte number);
-      ledger = ledger_same b (called b (call.Write number byte)) n.ledger (track_same b _) h.ledger;
+      ledger = ledger_same b (called b (call.Write number byte)) n.ledger (λ t. refl) h.ledger;
     }
 
 held_reset : (n : Notes) (b : ControllerModel) → Held n b → Held (noted b call.Reset n) (called b call.Reset)
@@ -95,38 +92,18 @@ unfolding event_of
 held_reset n b h =
     record {
       order = order_call b call.Reset h.order;
-      winchester_sound = h.winchester_sound;
-      floppy_sound = h.floppy_sound;
+      sound = h.sound;
       kept = record { buffered = h.kept.buffered; fits = tt; agrees = inl refl };
-      ledger = ledger_same b (called b call.Reset) n.ledger (track_same b _) h.ledger;
+      ledger = ledger_same b (called b call.Reset) n.ledger (λ t. refl) h.ledger;
     }
 
 -- ---- turns
--- a controller with another state, and another drive in one bay
-abbrev pub put_drive : Bay → ControllerModel → State → DriveModel → ControllerModel
-put_drive winchester b s d = model s d b.floppy
-put_drive floppy b s d = model s b.winchester d
+-- what a drive put into a bay leaves of the tracks and the drives beside it
+other_bay : (b : ControllerModel) (s : State) (bay : Bay) (d : DriveModel) (t : TrackName) → same_bay t.bay bay ≡ false → track_of (with_drive b s bay d) t ≡ track_of b t
+other_bay b s bay d t off = rw (track_of, off) refl
 
-other_bay : (bay : Bay) (b : ControllerModel) (s : State) (d : DriveModel) (t : TrackName) → same_bay t.bay bay ≡ false → track_of (put_drive bay b s d) t ≡ track_of b t
-other_bay bay b s d t off = grind arith
-
-drive_put : (bay : Bay) (b : ControllerModel) (s : State) (d : DriveModel) → drive_in bay (put_drive bay b s d) ≡ d
-drive_put bay b s d = grind arith
-
-state_put : (bay : Bay) (b : ControllerModel) (s : State) (d : DriveModel) → (put_drive bay b s d).state ≡ s
-state_put bay b s d = grind arith
-
-sound_in_bay : (bay : Bay) (n : Notes) (b : ControllerModel) → Held n b → Sound (drive_in bay b)
-sound_in_bay winchester n b h = h.winchester_sound
-sound_in_bay floppy n b h = h.floppy_sound
-
-winchester_put : (bay : Bay) (n : Notes) (b : ControllerModel) (s : State) (d : DriveModel) → Held n b → Sound d → Sound (put_drive bay b s d).winchester
-winchester_put winchester n b s d h z = z
-winchester_put floppy n b s d h z = h.winchester_sound
-
-floppy_put : (bay : Bay) (n : Notes) (b : ControllerModel) (s : State) (d : DriveModel) → Held n b → Sound d → Sound (put_drive bay b s d).floppy
-floppy_put winchester n b s d h z = h.floppy_sound
-floppy_put floppy n b s d h z = z
+sound_put : (n : Notes) (b : ControllerModel) (s : State) (bay : Bay) (d : DriveModel) → Held n b → Sound d → (q : Bay) → Sound ((with_drive b s bay d).drives q)
+sound_put n b s bay d h z q = cond_both (same_bay q bay) d (b.drives q) Sound (λ _. z) (λ _. h.sound q)
 
 -- the first pairs of some bytes are in as many bytes as they take
 ids_front : (xs : List ℕ) (n count : ℕ) → 2 * count ≤ n → ids_of (take n xs) count ≡ ids_of xs count
@@ -143,125 +120,108 @@ bytes_least Bytes1024 = lit≤ tt
 bytes_least Bytes128 = lit≤ tt
 
 -- what is entered of a plain write or a format is what the buffer holds
-event_fits : (bay : Bay) (b e : ControllerModel) (others : (t : TrackName) → same_bay t.bay bay ≡ false → track_of e t ≡ track_of b t) (n : Notes) (head : ℕ) (j : Job) → Held n b → b.state.phase ≡ Busy j
-    → FitsEvent bay b e others b.state.buffer n.taken (job_event bay head b.state (drive_in bay b) j)
-event_fits bay b e others n head (Write j) h phase = fits_written _
+event_fits : (bay : Bay) (b e : ControllerModel) (others : (t : TrackName) → same_bay t.bay bay ≡ false → track_of e t ≡ track_of b t) (n : Notes) (at : Selection) (j : Job) → Held n b → b.state.phase ≡ Busy j
+    → FitsEvent bay b e others b.state.buffer n.taken (job_event at b.state (b.drives at.bay) j)
+event_fits bay b e others n at (Write j) h phase = fits_written _
   where
-    fits_written : (written : Bool) → FitsEvent bay b e others b.state.buffer n.taken (cond written (sector_written (sector_named bay head b.state.registers) (mode_at b.state.registers.sdh) (not j.mode.long)) nothing)
+    fits_written : (written : Bool) → FitsEvent bay b e others b.state.buffer n.taken (cond written (sector_written (sector_named at b.state.registers) (mode_at b.state.registers.sdh) (not j.mode.long)) nothing)
     fits_written true = λ plain.
         let fit = subst (λ p. TakenFits p b.state.registers b.state.buffer n.taken) phase h.kept.fits (not-true j.mode.long plain) in
         let size = bytes_of (size_at b.state.registers.sdh) in
         let few : size ≤ length b.state.buffer.bytes = omega (arith, bytes_most (size_at b.state.registers.sdh), h.kept.buffered.bytes_long) in
         (fit.0, fit.1, ap length (sym fit.0) ∙ length-take-le size b.state.buffer.bytes few)
     fits_written false = tt
-event_fits bay b e others n head Format h phase = fits_formatted _
+event_fits bay b e others n at Format h phase = fits_formatted _
   where
     count : ℕ
     count = min (sector_count b.state.registers) 64
 
-    fits_formatted : (formatted : Bool) → FitsEvent bay b e others b.state.buffer n.taken (cond formatted (formatted_event bay head b.state) nothing)
+    fits_formatted : (formatted : Bool) → FitsEvent bay b e others b.state.buffer n.taken (cond formatted (formatted_event at b.state) nothing)
     fits_formatted true =
         let size = size_at b.state.registers.sdh in
         let fit : take (bytes_of size) b.state.buffer.bytes ≡ n.taken = subst (λ p. TakenFits p b.state.registers b.state.buffer n.taken) phase h.kept.fits in
         subst (λ ys. ids_of ys count ≡ ids_of b.state.buffer.bytes count) fit (ids_front b.state.buffer.bytes (bytes_of size) count (omega (arith, bytes_least size)))
     fits_formatted false = tt
-event_fits bay b e others n head j h phase = grind arith
+event_fits bay b e others n at j h phase = grind arith
 
 -- the event of a busy controller's turn is its job's
-pub event_is : (j : Job) (bay : Bay) (head : ℕ) (b : ControllerModel) → turn_event_on (Busy j) bay head b ≡ job_event bay head b.state (drive_in bay b) j
-event_is j bay head b = grind arith
+pub event_is : (j : Job) (at : Selection) (b : ControllerModel) → turn_event_on (Busy j) at b ≡ job_event at b.state (b.drives at.bay) j
+event_is j at b = grind arith
 
 -- the notes after a turn between two phases
 abbrev noted_turn : Phase → Phase → Event → Notes → Notes
 noted_turn p q event n = record { taken = taken_now p q false n.taken; ledger = entered event n.taken n.ledger; in_force = n.in_force }
 
--- what a turn of a job on one of the drives leads to: sound drives, a kept state, the other drive's tracks as they were and this drive's as the event says
+-- what a turn of a job on the drive in a bay leads to: sound drives, a kept state, the tracks of other bays as they were and those of this one as the event says
 pub record JobTurn (bay : Bay) (n : Notes) (b e : ControllerModel) (event : Event) : Type 0 where
-  pub winchester_sound : Sound e.winchester
-  pub floppy_sound : Sound e.floppy
+  pub sound : (q : Bay) → Sound (e.drives q)
   pub kept : Kept (turn_taken n.taken e.state) n.in_force e.state
   pub others : (u : TrackName) → same_bay u.bay bay ≡ false → track_of e u ≡ track_of b u
-  pub changes : Changes bay (drive_in bay b) (drive_in bay e) b.state.buffer event
+  pub changes : Changes bay (b.drives bay) (e.drives bay) b.state.buffer event
 
-pub job_turn : (bay : Bay) (head : ℕ) (j : Job) (n : Notes) (b : ControllerModel) → Held n b → b.state.phase ≡ Busy j
-    → (t : Turned) → t ≡ worked j b.state head (drive_in bay b) → (e : ControllerModel) → e ≡ put_drive bay b t.state t.drive
-    → JobTurn bay n b e (job_event bay head b.state (drive_in bay b) j)
-job_turn bay head j n b h phase t is e made =
+pub job_turn : (at : Selection) (j : Job) (n : Notes) (b : ControllerModel) → Held n b → b.state.phase ≡ Busy j
+    → (t : Turned) → t ≡ worked j b.state at (b.drives at.bay) → (e : ControllerModel) → e ≡ with_drive b t.state at.bay t.drive
+    → JobTurn at.bay n b e (job_event at b.state (b.drives at.bay) j)
+job_turn at j n b h phase t is e made =
     let s = b.state in
-    let d = drive_in bay b in
-    let r : Leaves bay n.taken n.in_force s d (job_event bay head s d j) t = rw is (turned_result bay n.taken n.in_force head s d (sound_in_bay bay n b h) j phase h.kept) in
-    let drive : drive_in bay e ≡ t.drive = rw made (drive_put bay b t.state t.drive) in
-    let state : e.state ≡ t.state = rw made (state_put bay b t.state t.drive) in
+    let d = b.drives at.bay in
+    let r : Leaves at.bay n.taken n.in_force s d (job_event at s d j) t = rw is (turned_result at n.taken n.in_force s d (h.sound at.bay) j phase h.kept) in
+    let drive : e.drives at.bay ≡ t.drive = rw made (drive_put b t.state at.bay t.drive) in
+    let state : e.state ≡ t.state = rw made refl in
     record {
-      winchester_sound = rw made (winchester_put bay n b t.state t.drive h r.sound);
-      floppy_sound = rw made (floppy_put bay n b t.state t.drive h r.sound);
+      sound = rw made (sound_put n b t.state at.bay t.drive h r.sound);
       kept = rw state r.kept;
-      others = λ u other. rw made (other_bay bay b t.state t.drive u other);
+      others = λ u other. rw made (other_bay b t.state at.bay t.drive u other);
       changes = rw drive r.changes;
     }
 
-held_job : (bay : Bay) (head : ℕ) (j : Job) (n : Notes) (b : ControllerModel) → Held n b → b.state.phase ≡ Busy j
-    → (t : Turned) → t ≡ worked j b.state head (drive_in bay b) → (e : ControllerModel) → e ≡ put_drive bay b t.state t.drive → InOrder e
-    → Held (noted_turn (Busy j) e.state.phase (turn_event_on (Busy j) bay head b) n) e
-held_job bay head j n b h phase t is e made order =
-    let event = job_event bay head b.state (drive_in bay b) j in
-    let r = job_turn bay head j n b h phase t is e made in
+held_job : (at : Selection) (j : Job) (n : Notes) (b : ControllerModel) → Held n b → b.state.phase ≡ Busy j
+    → (t : Turned) → t ≡ worked j b.state at (b.drives at.bay) → (e : ControllerModel) → e ≡ with_drive b t.state at.bay t.drive → InOrder e
+    → Held (noted_turn (Busy j) e.state.phase (turn_event_on (Busy j) at b) n) e
+held_job at j n b h phase t is e made order =
+    let event = job_event at b.state (b.drives at.bay) j in
+    let r = job_turn at j n b h phase t is e made in
     let no_command : news (Busy j) e.state.phase false ≡ requests e.state.phase = grind arith in
     record {
       order = order;
-      winchester_sound = r.winchester_sound;
-      floppy_sound = r.floppy_sound;
+      sound = r.sound;
       kept = rw no_command r.kept;
-      ledger = rw (event_is j bay head b)
-          (ledger_after bay b e r.others b.state.buffer n.taken n.ledger event r.changes (event_fits bay b e r.others n head j h phase) h.ledger);
+      ledger = rw (event_is j at b)
+          (ledger_after at.bay b e r.others b.state.buffer n.taken n.ledger event r.changes (event_fits at.bay b e r.others n at j h phase) h.ledger);
     }
 
 -- nothing is left to do where no drive is selected
 without_kept : (taken : List ℕ) (o : Option Command) (j : Job) (s : State) → Buffered s.buffer → Kept taken o (without_drive j s)
 without_kept taken o j s f = record { buffered = record { bytes_long = grind arith; check_long = grind arith }; fits = grind arith; agrees = grind arith }
 
-abbrev pub event_by : Phase → Option Selection → ControllerModel → Event
-event_by p (Some (Winchester head)) b = turn_event_on p winchester head b
-event_by p (Some (Floppy head)) b = turn_event_on p floppy head b
-event_by p None b = nothing
-
-pub event_by_is : (sel : Option Selection) (b : ControllerModel) → turn_event sel b ≡ event_by b.state.phase sel b
-event_by_is sel b = grind arith
-
 -- at rest and while bytes move nothing happens
-pub idle_event : (p : Phase) (sel : Option Selection) (b : ControllerModel) → is_busy p ≡ false → event_by p sel b ≡ nothing
+pub idle_event : (p : Phase) (sel : Option Selection) (b : ControllerModel) → is_busy p ≡ false → turn_event p sel b ≡ nothing
 idle_event p sel b idle = grind arith
 
-held_idle : (p : Phase) (sel : Option Selection) (n : Notes) (b : ControllerModel) → b.state.phase ≡ p → is_busy p ≡ false → Held n b → Held (noted_turn p b.state.phase (event_by p sel b) n) b
+held_idle : (p : Phase) (sel : Option Selection) (n : Notes) (b : ControllerModel) → b.state.phase ≡ p → is_busy p ≡ false → Held n b → Held (noted_turn p b.state.phase (turn_event p sel b) n) b
 held_idle p sel n b phase idle h =
     rw (idle_event p sel b idle)
     (record {
       order = h.order;
-      winchester_sound = h.winchester_sound;
-      floppy_sound = h.floppy_sound;
+      sound = h.sound;
       kept = subst (λ q. Kept (taken_now q b.state.phase false n.taken) n.in_force b.state) phase (kept_same n.taken n.in_force b.state h.kept);
       ledger = h.ledger;
     })
 
-held_turn_by : (p : Phase) (sel : Option Selection) (n : Notes) (b : ControllerModel) → b.state.phase ≡ p → Held n b → InOrder (turned_in p sel b) → Held (noted_turn p (turned_in p sel b).state.phase (event_by p sel b) n) (turned_in p sel b)
-held_turn_by (Busy j) (Some (Winchester head)) n b phase h order = held_job winchester head j n b h phase _ refl _ refl order
-held_turn_by (Busy j) (Some (Floppy head)) n b phase h order = held_job floppy head j n b h phase _ refl _ refl order
+held_turn_by : (p : Phase) (sel : Option Selection) (n : Notes) (b : ControllerModel) → b.state.phase ≡ p → Held n b → InOrder (turned_in p sel b) → Held (noted_turn p (turned_in p sel b).state.phase (turn_event p sel b) n) (turned_in p sel b)
+held_turn_by (Busy j) (Some at) n b phase h order = held_job at j n b h phase _ refl _ refl order
 held_turn_by (Busy j) None n b phase h order =
     record {
       order = order;
-      winchester_sound = h.winchester_sound;
-      floppy_sound = h.floppy_sound;
+      sound = h.sound;
       kept = without_kept _ n.in_force j b.state h.kept.buffered;
-      ledger = ledger_same b (with_state b (without_drive j b.state)) n.ledger (track_same b _) h.ledger;
+      ledger = ledger_same b (with_state b (without_drive j b.state)) n.ledger (λ t. refl) h.ledger;
     }
 held_turn_by p sel n b phase h order = held_idle p sel n b phase refl h
 
 held_turn : (n : Notes) (b : ControllerModel) → Held n b → Held (noted b call.Turn n) (called b call.Turn)
 unfolding event_of
-held_turn n b h =
-    let sel = selected b.state.registers.sdh in
-    rw (event_by_is sel b)
-    (held_turn_by b.state.phase sel n b refl h (order_call b call.Turn h.order))
+held_turn n b h = held_turn_by b.state.phase (selected b.state.registers.sdh) n b refl h (order_call b call.Turn h.order)
 
 -- ---- every call, and every history
 pub held_call : (n : Notes) (b : ControllerModel) (c : Call) → Held n b → Held (noted b c n) (called b c)
@@ -275,5 +235,5 @@ unfolding notes_from runs
 held_from n b [] h = h
 held_from n b (c ∷ cs) h = held_from (noted b c n) (called b c) cs (held_call n b c h)
 
-pub held_at : (w f : DriveModel) → ADrive w → ADrive f → (history : List Call) → Held (notes_of w f history) (at w f history)
-held_at w f aw af history = held_from no_notes (made w f) history (held_made w f aw af)
+pub held_at : (new : ControllerModel) → IsNew new → (history : List Call) → Held (notes_of new history) (runs new history)
+held_at new is_new history = held_from no_notes new history (held_made new is_new)

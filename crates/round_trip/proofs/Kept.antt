@@ -12,6 +12,7 @@ use Rattle.drive.specs.declared.buffer.SectorBuffer.{SectorBuffer}
 use Rattle.drive.specs.declared.answers.ReadError.{ReadError}
 use Rattle.drive.specs.declared.answers.WriteError.{WriteError}
 use Rattle.drive.specs.declared.answers.FormatError.{FormatError}
+use Rattle.task_file.specs.declared.bay.Selection.{Selection}
 use Rattle.task_file.specs.declared.registers.Registers.{Registers}
 use Rattle.task_file.specs.declared.command.Command.{Command}
 use Rattle.task_file.specs.declared.command.Command.TheVariants as command
@@ -114,21 +115,21 @@ abbrev pub turn_taken : List ℕ → State → List ℕ
 turn_taken taken t = cond (requests t.phase) [] taken
 
 -- wherever a read leads, a read is in force, and nothing is being taken
-verdict_kept : (more : List ℕ) (o : Option Command) (j : ReadJob) → o ≡ Some (command.Read j.mode) → (u : Verdict) (s : State) (head : ℕ) → Buffered s.buffer → Kept more o (read_by u s j head)
-verdict_kept more o j agrees u s head f =
+verdict_kept : (more : List ℕ) (o : Option Command) (j : ReadJob) → o ≡ Some (command.Read j.mode) → (u : Verdict) (s : State) (on : Selection) → Buffered s.buffer → Kept more o (read_by u s j on)
+verdict_kept more o j agrees u s on f =
     record {
       buffered = record { bytes_long = grind (arith, common_steps, length-inverted, bytes_most); check_long = grind arith };
       fits = grind arith;
       agrees = grind arith;
     }
 
-pub read_kept : (more : List ℕ) (o : Option Command) (j : ReadJob) → o ≡ Some (command.Read j.mode) → (a : Result (Unit {0}) ReadError) (s : State) (head : ℕ) → Buffered s.buffer → Kept more o (read_judged a s j head)
+pub read_kept : (more : List ℕ) (o : Option Command) (j : ReadJob) → o ≡ Some (command.Read j.mode) → (a : Result (Unit {0}) ReadError) (s : State) (on : Selection) → Buffered s.buffer → Kept more o (read_judged a s j on)
 unfolding read_judged
-read_kept more o j agrees a s head f = verdict_kept more o j agrees _ s head f
+read_kept more o j agrees a s on f = verdict_kept more o j agrees _ s on f
 
-pub write_kept : (taken : List ℕ) (o : Option Command) (s : State) (j : WriteJob) → Kept taken o (with_phase s (Busy (Write j))) → (a : Result (Unit {0}) WriteError) (head : ℕ)
-    → Kept (turn_taken taken (write_judged a s j head)) o (write_judged a s j head)
-write_kept taken o s j k a head =
+pub write_kept : (taken : List ℕ) (o : Option Command) (s : State) (j : WriteJob) → Kept taken o (with_phase s (Busy (Write j))) → (a : Result (Unit {0}) WriteError) (on : Selection)
+    → Kept (turn_taken taken (write_judged a s j on)) o (write_judged a s j on)
+write_kept taken o s j k a on =
     record { buffered = record { bytes_long = grind arith; check_long = grind arith }; fits = grind arith; agrees = grind arith }
 
 pub format_kept : (more : List ℕ) (o : Option Command) (s : State) → Buffered s.buffer → (a : Result (Unit {0}) FormatError) → Kept more o (format_judged a s)

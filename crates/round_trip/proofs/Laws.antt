@@ -2,7 +2,7 @@
 use Rattle.std.proofs.Common.{◌≡◌, ℕ, ◌+◌, ◌<◌, true, false, not, ◌||◌, List, [], ◌∷◌, ◌++◌, length, take, is_some, None, sym, ap, ◌∙◌, subst, zero-add, arith, slice_index}
 use Rattle.std.proofs.lemmas.Bool.{and_parts, and_from, both_ways}
 use Rattle.sector.specs.Sizes.{bytes_of}
-use Rattle.drive.specs.Model.{DriveModel}
+use Rattle.task_file.specs.declared.bay.Selection.{Selection}
 use Rattle.task_file.specs.declared.registers.Registers.{Registers}
 use Rattle.task_file.specs.declared.command.ReadMode.{ReadMode}
 use Rattle.task_file.specs.declared.state.Job.TheVariants.{Read}
@@ -10,16 +10,16 @@ use Rattle.task_file.specs.declared.state.Phase.{Phase}
 use Rattle.task_file.specs.declared.state.Phase.TheVariants.{Busy, Offering}
 use Rattle.task_file.specs.Registers.{size_at}
 use Rattle.task_file.specs.State.{first_read, is_busy, requests}
-use Rattle.controller.specs.Model.{ControllerModel, made}
-use Rattle.histories.specs.declared.call.Call.{Call}
-use Rattle.histories.specs.declared.call.Call.TheVariants as call
-use Rattle.histories.specs.Runs.{Answer, called, runs, answers, at, answer_to, byte_read, Continues}
+use Rattle.controller.specs.Model.{ControllerModel}
+use Rattle.controller.specs.declared.call.Call.{Call}
+use Rattle.controller.specs.declared.call.Call.TheVariants as call
+use Rattle.controller.specs.Runs.{Answer, called, runs, answers, IsNew, answer_to, byte_read, Continues}
 use Rattle.histories.specs.Working.{InOrder, Counted}
 use Rattle.histories.proofs.Orders.{order_call, order_runs}
-use Rattle.histories.proofs.Runs.{runs_joined}
-use Rattle.round_trip.specs.Events.{busy, drq, error, Bay, SectorName, sector_named, busy_comes_on, drq_comes_on}
+use Rattle.controller.proofs.Runs.{runs_joined}
+use Rattle.round_trip.specs.Events.{busy, drq, error, SectorName, sector_named, busy_comes_on, drq_comes_on}
 use Rattle.round_trip.specs.Ledger.{Writing, Notes, notes_of}
-use Rattle.round_trip.specs.Laws.{PlainRead, BusyThroughout, DrqThroughout, NoReset, drawn_in, Mild, used_bits, outlook_at, StandsUnmarked, Readable, SameBytes, CleanExactlyWhen, ADrive, ScriptIsSheet, Tells}
+use Rattle.round_trip.specs.Laws.{PlainRead, BusyThroughout, DrqThroughout, NoReset, drawn_in, Mild, used_bits, outlook_at, StandsUnmarked, Readable, SameBytes, CleanExactlyWhen, ScriptIsSheet, Tells}
 use Rattle.round_trip.proofs.Held.{Held, held_at}
 use Rattle.round_trip.proofs.Ledgers.{WrittenThere}
 use Rattle.round_trip.proofs.Requests.{every_request}
@@ -33,15 +33,14 @@ use Rattle.round_trip.proofs.ReadLaws.{test_ends, first_tries, Under, way, reset
 -- ---- where a read begins
 -- a plain read begins at a sector that the registers name
 record Start (b : ControllerModel) (m : ReadMode) (name : SectorName) (x : Writing) : Type 0 where
-  bay : Bay
-  head : ℕ
-  named : sector_named bay head b.state.registers ≡ name
-  begins : Begins b bay head m x
+  at : Selection
+  named : sector_named at b.state.registers ≡ name
+  begins : Begins b at m x
   phase : b.state.phase ≡ Busy (Read (first_read m))
 
-at_more : (w f : DriveModel) (before : List Call) (c : Call) → at w f (before ++ (c ∷ [])) ≡ called (at w f before) c
+at_more : (new : ControllerModel) (before : List Call) (c : Call) → runs new (before ++ (c ∷ [])) ≡ called (runs new before) c
 unfolding runs
-at_more w f before c = runs_joined (made w f) before (c ∷ [])
+at_more new before c = runs_joined new before (c ∷ [])
 
 starts : (n : Notes) (b : ControllerModel) (m : ReadMode) (name : SectorName) (x : Writing) → Held n b → (a : ControllerModel) (c : Call) → b ≡ called a c → busy_comes_on a c ≡ true → PlainRead b n m name x → Start b m name x
 starts n b m name x held a c is comes r =
@@ -50,8 +49,7 @@ starts n b m name x held a c is comes r =
     let fresh = begins_afresh a c j.0 comes (ap (λ (z : ControllerModel). z.state.phase) (sym is) ∙ j.1.0) in
     let sel = selects b name r.named in
     record {
-      bay = sel.bay;
-      head = sel.head;
+      at = sel.at;
       named = sel.named;
       begins =
           record {
@@ -98,14 +96,14 @@ module _ (b : ControllerModel) (m : ReadMode) (name : SectorName) (x : Writing) 
   abbrev offered : ControllerModel
   offered = called e call.Turn
 
-  under : Under b s.bay s.head m x s.begins waiting e
-  under = under_way b s.bay s.head m x s.begins waiting 0 b (first_tries b s.bay s.head m x s.begins order s.phase) on
+  under : Under b s.at m x s.begins waiting e
+  under = under_way b s.at m x s.begins waiting 0 b (first_tries b s.at m x s.begins order s.phase) on
 
   order_offered : InOrder offered
   order_offered = order_call e call.Turn (order_runs b waiting order)
 
   module _ (asks : drq offered ≡ true) (cs : List Call) (throughout : DrqThroughout offered cs) (clean : error (runs offered cs) ≡ false) where
-    by_end : Ends b s.bay s.head m x s.begins offered → Gives x offered cs
+    by_end : Ends b s.at m x s.begins offered → Gives x offered cs
     by_end (read k few standing settled front failure phase sdh) =
         drawn_is m x offered s.begins.plain order_offered phase (ap (λ z. take (bytes_of (size_at z)) offered.state.buffer.bytes) sdh ∙ front)
         (s.begins.written.1 ∙ ap (λ z. bytes_of (size_at z)) (sym sdh)) cs throughout
@@ -113,16 +111,16 @@ module _ (b : ControllerModel) (m : ReadMode) (name : SectorName) (x : Writing) 
         let d = drawing cs offered m 0 (offering asks) throughout in
         absurd (both_ways (error (runs offered cs)) clean (ap is_some d.failure ∙ failure))
 
-    same : Under b s.bay s.head m x s.begins waiting e → Gives x offered cs
-    same (way k t) = by_end (ends b s.bay s.head m x s.begins k e t (request_is_not_busy offered.state.phase asks))
+    same : Under b s.at m x s.begins waiting e → Gives x offered cs
+    same (way k t) = by_end (ends b s.at m x s.begins k e t (request_is_not_busy offered.state.phase asks))
     same (reset not_none test) = absurd (both_ways (drq offered) (ap requests (test_ends e test)) asks)
 
-pub same_bytes : (w f : DriveModel) → ADrive w → ADrive f → (history : List Call) → SameBytes w f history
-same_bytes w f aw af history before c waiting cs rest m name x split comes r on raises throughout clean =
-    let b = at w f (before ++ (c ∷ [])) in
-    let n = notes_of w f (before ++ (c ∷ [])) in
-    let held = held_at w f aw af (before ++ (c ∷ [])) in
-    let s = starts n b m name x held (at w f before) c (at_more w f before c) comes r in
+pub same_bytes : (new : ControllerModel) → IsNew new → (history : List Call) → SameBytes new history
+same_bytes new is_new history before c waiting cs rest m name x split comes r on raises throughout clean =
+    let b = runs new (before ++ (c ∷ [])) in
+    let n = notes_of new (before ++ (c ∷ [])) in
+    let held = held_at new is_new (before ++ (c ∷ [])) in
+    let s = starts n b m name x held (runs new before) c (at_more new before c) comes r in
     let asks = (and_parts (drq (called (runs b waiting) call.Turn)) _ raises).0 in
     let gives = same b m name x s held.order waiting on asks cs throughout clean (under b m name x s held.order waiting on) in
     (gives.inside, gives.answers, gives.more)
@@ -131,7 +129,7 @@ same_bytes w f aw af history before c waiting cs rest m name x split comes r on 
 module _ (b : ControllerModel) (m : ReadMode) (name : SectorName) (x : Writing) (s : Start b m name x) (order : InOrder b) (waiting : List Call) (on : BusyThroughout b waiting)
     (single : m.multiple ≡ false) (no_failure : b.state.failure ≡ None) where
   abbrev here : SectorName
-  here = sector_named s.bay s.head b.state.registers
+  here = sector_named s.at b.state.registers
 
   abbrev after : ControllerModel
   after = called (runs b waiting) call.Turn
@@ -142,7 +140,7 @@ module _ (b : ControllerModel) (m : ReadMode) (name : SectorName) (x : Writing) 
       only : error after ≡ false → StandsUnmarked b at_sector × Readable x.mode (used_bits x.mode at_sector) (outlook_at b at_sector)
       whenever : StandsUnmarked b at_sector → Readable x.mode (used_bits x.mode at_sector) (outlook_at b at_sector) → error after ≡ false
 
-    shows_by : Ends b s.bay s.head m x s.begins after → Shows here
+    shows_by : Ends b s.at m x s.begins after → Shows here
     shows_by (read k few standing settled front failure phase sdh) =
         let off_error : error after ≡ false = ap is_some (failure ∙ no_failure) in
         record {
@@ -157,17 +155,17 @@ module _ (b : ControllerModel) (m : ReadMode) (name : SectorName) (x : Writing) 
               absurd (why standing k.0 k.1.0 k.1.1);
         }
 
-    shows : Under b s.bay s.head m x s.begins waiting (runs b waiting) → Shows name
-    shows (way k t) = subst Shows s.named (shows_by (ends b s.bay s.head m x s.begins k (runs b waiting) t (request_is_not_busy after.state.phase asks)))
+    shows : Under b s.at m x s.begins waiting (runs b waiting) → Shows name
+    shows (way k t) = subst Shows s.named (shows_by (ends b s.at m x s.begins k (runs b waiting) t (request_is_not_busy after.state.phase asks)))
     shows (reset not_none test) = absurd (both_ways (drq after) (ap requests (test_ends (runs b waiting) test)) asks)
 
   -- a turn that turns BUSY off raises DRQ
-  asks_by : Ends b s.bay s.head m x s.begins after → drq after ≡ true
+  asks_by : Ends b s.at m x s.begins after → drq after ≡ true
   asks_by (read k few standing settled front failure phase sdh) = ap requests phase
   asks_by (failed why failure offering asked) = asked single
 
-  asks_then : busy after ≡ false → NoReset waiting → Under b s.bay s.head m x s.begins waiting (runs b waiting) → drq after ≡ true
-  asks_then off none (way k t) = asks_by (ends b s.bay s.head m x s.begins k (runs b waiting) t off)
+  asks_then : busy after ≡ false → NoReset waiting → Under b s.at m x s.begins waiting (runs b waiting) → drq after ≡ true
+  asks_then off none (way k t) = asks_by (ends b s.at m x s.begins k (runs b waiting) t off)
   asks_then off none (reset not_none test) = absurd (not_none none)
 
 raised : (e : ControllerModel) → busy e ≡ true → drq (called e call.Turn) ≡ true → drq_comes_on e call.Turn ≡ true
@@ -176,21 +174,21 @@ raised e on asks = and_from _ _ asks (idle e.state.phase on)
     idle : (p : Phase) → is_busy p ≡ true → (not (requests p) || false) ≡ true
     idle p on = grind arith
 
-pub clean_exactly_when : (w f : DriveModel) → ADrive w → ADrive f → (history : List Call) → CleanExactlyWhen w f history
-clean_exactly_when w f aw af history before byte after m name x split accepted on r single =
+pub clean_exactly_when : (new : ControllerModel) → IsNew new → (history : List Call) → CleanExactlyWhen new history
+clean_exactly_when new is_new history before byte after m name x split accepted on r single =
     let h = before ++ (call.Write 7 byte ∷ []) in
-    let b = at w f h in
-    let held = held_at w f aw af h in
-    let is = at_more w f before (call.Write 7 byte) in
-    let on_then : busy (called (at w f before) (call.Write 7 byte)) ≡ true = ap busy (sym is) ∙ on in
-    let s = starts (notes_of w f h) b m name x held (at w f before) (call.Write 7 byte) is (accepted_begins (at w f before) byte accepted on_then) r in
-    let no_failure : b.state.failure ≡ None = ap (λ (z : ControllerModel). z.state.failure) is ∙ (accepted_clean (at w f before) byte accepted on_then).0 in (
+    let b = runs new h in
+    let held = held_at new is_new h in
+    let is = at_more new before (call.Write 7 byte) in
+    let on_then : busy (called (runs new before) (call.Write 7 byte)) ≡ true = ap busy (sym is) ∙ on in
+    let s = starts (notes_of new h) b m name x held (runs new before) (call.Write 7 byte) is (accepted_begins (runs new before) byte accepted on_then) r in
+    let no_failure : b.state.failure ≡ None = ap (λ (z : ControllerModel). z.state.failure) is ∙ (accepted_clean (runs new before) byte accepted on_then).0 in (
       (λ waiting rest parts throughout raises.
           let asks = (and_parts (drq (called (runs b waiting) call.Turn)) _ raises).0 in
           let shown = shows b m name x s held.order waiting throughout single no_failure asks (under b m name x s held.order waiting throughout) in
           (shown.only, shown.whenever)),
       (λ enough.
-          let z = brought_off after 1032 b held.order on (left_at w f aw af h) enough in
+          let z = brought_off after 1032 b held.order on (left_at new is_new h) enough in
           let asks = λ (none : NoReset z.waiting). asks_then b m name x s held.order z.waiting z.on single no_failure z.off none (under b m name x s held.order z.waiting z.on) in
           (z.waiting, (z.rest, (z.split, z.few, z.on, λ none. raised (runs b z.waiting) (busy_last b z.waiting z.on) (asks none))))),
     )
@@ -198,17 +196,17 @@ clean_exactly_when w f aw af history before byte after m name x split accepted o
 -- ---- the theorem
 pub round_trip : ScriptIsSheet
 unfolding ScriptIsSheet
-round_trip w f aw af history =
+round_trip new is_new history =
     record {
-      same_bytes = same_bytes w f aw af history;
-      every_request = every_request w f aw af history;
-      clean_exactly_when = clean_exactly_when w f aw af history;
-      nothing_else_moves = nothing_else_moves w f aw af history;
-      busy_ends = busy_ends w f aw af history;
+      same_bytes = same_bytes new is_new history;
+      every_request = every_request new is_new history;
+      clean_exactly_when = clean_exactly_when new is_new history;
+      nothing_else_moves = nothing_else_moves new is_new history;
+      busy_ends = busy_ends new is_new history;
     }
 
 -- so a run that hands back the definitions' answers, and continues every history, tells all that it has to
-pub tells : (old : ControllerModel) (calls : List Call) (given : List Answer) (new : ControllerModel) → given ≡ answers old calls → Continues old calls new → Tells old calls given new
+pub tells : (old : ControllerModel) (calls : List Call) (given : List Answer) (now : ControllerModel) → given ≡ answers old calls → Continues old calls now → Tells old calls given now
 unfolding Tells ScriptIsSheet
-tells old calls given new every continues w f aw af history leads =
-    (continues w f history leads, subst (λ z. given ≡ answers z calls) (sym leads) every, round_trip w f aw af (history ++ calls))
+tells old calls given now every continues new is_new history leads =
+    (continues new is_new history leads, subst (λ z. given ≡ answers z calls) (sym leads) every, round_trip new is_new (history ++ calls))

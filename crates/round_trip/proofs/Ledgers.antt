@@ -8,10 +8,11 @@ use Rattle.check_code.specs.Code.{check_bytes_of}
 use Rattle.check_code.specs.Mode.{code_of}
 use Rattle.drive.specs.declared.buffer.SectorBuffer.{SectorBuffer}
 use Rattle.drive.specs.Model.{Sector, no_sector, slot_of, blank_track, replaced}
-use Rattle.task_file.specs.declared.state.State.{State}
+use Rattle.task_file.specs.declared.bay.Bay.{Bay}
+use Rattle.task_file.specs.Bays.{same_bay}
 use Rattle.task_file.specs.Attempts.{ids_of, zero_check}
-use Rattle.controller.specs.Model.{ControllerModel, with_state}
-use Rattle.round_trip.specs.Events.{Bay, same_bay, drive_in, TrackName, SectorName, same_track, same_sector, Event, nothing, sector_written, track_formatted}
+use Rattle.controller.specs.Model.{ControllerModel}
+use Rattle.round_trip.specs.Events.{TrackName, SectorName, same_track, same_sector, Event, nothing, sector_written, track_formatted}
 use Rattle.round_trip.specs.Ledger.{Writing, Ledger, numbered, entered}
 use Rattle.round_trip.specs.Laws.{track_of, LeftAlone}
 use Rattle.round_trip.proofs.Names.{same_track_is, same_track_self, same_size_is, same_sector_is, apart_on_track}
@@ -27,9 +28,6 @@ abbrev pub LedgerHeld : ControllerModel → Ledger → Type 0
 LedgerHeld b l = (name : SectorName) (x : Writing) → l name ≡ Some x → x.plain ≡ true → WrittenThere b name x
 
 -- ---- the tracks
-pub track_same : (b : ControllerModel) (s : State) (t : TrackName) → track_of (with_state b s) t ≡ track_of b t
-track_same b s t = grind arith
-
 pub ledger_same : (b e : ControllerModel) (l : Ledger) → ((t : TrackName) → track_of e t ≡ track_of b t) → LedgerHeld b l → LedgerHeld e l
 ledger_same b e l same held name x is plain =
     subst (λ tr. Stands tr name.number name.size x.bytes (check_bytes_of (code_of x.mode) x.bytes) × (length x.bytes ≡ bytes_of name.size)) (sym (same name.track))
@@ -38,12 +36,12 @@ ledger_same b e l same held name x is plain =
 -- one track of one drive replaced
 module _ (bay : Bay) (b e : ControllerModel) (others : (t : TrackName) → same_bay t.bay bay ≡ false → track_of e t ≡ track_of b t) where
   pub tracks_replaced : (name : TrackName) (new : List Sector) → name.bay ≡ bay
-      → ((c h : ℕ) → (drive_in bay e).track c h ≡ replaced (drive_in bay b).track name.cylinder name.head new c h)
+      → ((c h : ℕ) → (e.drives bay).track c h ≡ replaced (b.drives bay).track name.cylinder name.head new c h)
       → (t : TrackName) → track_of e t ≡ cond (same_track name t) new (track_of b t)
   tracks_replaced name new in_bay change t = grind (arith, nat_tests, others t, change t.cylinder t.head)
 
   -- where a track stays
-  pub stays : ((c h : ℕ) → (drive_in bay e).track c h ≡ (drive_in bay b).track c h) → (t : TrackName) → track_of e t ≡ track_of b t
+  pub stays : ((c h : ℕ) → (e.drives bay).track c h ≡ (b.drives bay).track c h) → (t : TrackName) → track_of e t ≡ track_of b t
   stays same t = grind (arith, others t, same t.cylinder t.head)
 
   -- ---- the ledger after an event
@@ -54,10 +52,10 @@ module _ (bay : Bay) (b e : ControllerModel) (others : (t : TrackName) → same_
       plain ≡ true → (take (bytes_of name.size) buf.bytes ≡ taken) × (buf.check ≡ check_bytes_of (code_of mode) taken) × (length taken ≡ bytes_of name.size)
   FitsEvent buf taken (track_formatted name count size mode) = ids_of taken count ≡ ids_of buf.bytes count
 
-  pub ledger_after : (buf : SectorBuffer) (taken : List ℕ) (l : Ledger) (event : Event) → Changes bay (drive_in bay b) (drive_in bay e) buf event → FitsEvent buf taken event → LedgerHeld b l → LedgerHeld e (entered event taken l)
+  pub ledger_after : (buf : SectorBuffer) (taken : List ℕ) (l : Ledger) (event : Event) → Changes bay (b.drives bay) (e.drives bay) buf event → FitsEvent buf taken event → LedgerHeld b l → LedgerHeld e (entered event taken l)
   ledger_after buf taken l nothing change fits held name x is plain = ledger_same b e l (stays change) held name x is plain
   ledger_after buf taken l (sector_written name mode whole) change fits held other x is plain =
-      let track = (drive_in bay b).track name.track.cylinder name.track.head in
+      let track = (b.drives bay).track name.track.cylinder name.track.head in
       let k = change.1.0 in
       let new = rewritten_at track k (take (bytes_of name.size) buf.bytes) buf.check in
       let slot : slot_of track name.number name.size ≡ Some k = change.1.1.0 in
@@ -95,10 +93,10 @@ module _ (bay : Bay) (b e : ControllerModel) (others : (t : TrackName) → same_
       ]
 
   -- ---- what an event leaves alone
-  pub left_alone : (buf : SectorBuffer) (event : Event) → Changes bay (drive_in bay b) (drive_in bay e) buf event → LeftAlone event b e
+  pub left_alone : (buf : SectorBuffer) (event : Event) → Changes bay (b.drives bay) (e.drives bay) buf event → LeftAlone event b e
   left_alone buf nothing change = stays change
   left_alone buf (sector_written name mode whole) change =
-      let track = (drive_in bay b).track name.track.cylinder name.track.head in
+      let track = (b.drives bay).track name.track.cylinder name.track.head in
       let k = change.1.0 in
       let new = rewritten_at track k (take (bytes_of name.size) buf.bytes) buf.check in
       let after = tracks_replaced name.track new change.0 change.1.1.1 in

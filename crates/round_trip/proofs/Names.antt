@@ -2,13 +2,7 @@
 use Rattle.std.proofs.Common.{◌≡◌, true, false, arith}
 use Rattle.std.proofs.lemmas.Bool.Decides.{nat_tests}
 use Rattle.sector.specs.declared.size.SizeCode.{SizeCode}
-use Rattle.round_trip.specs.Events.{Bay, same_bay, TrackName, SectorName, same_track, same_size, same_sector}
-
-pub same_bay_is : (a b : Bay) → same_bay a b ≡ true → a ≡ b
-same_bay_is a b e = grind arith
-
-pub same_bay_self : (a : Bay) → same_bay a a ≡ true
-same_bay_self a = grind arith
+use Rattle.round_trip.specs.Events.{TrackName, SectorName, same_track, same_size, same_sector}
 
 pub same_track_is : (t u : TrackName) → same_track t u ≡ true → t ≡ u
 same_track_is t u e = grind (arith, nat_tests)

@@ -1,24 +1,23 @@
 -- Along calls a plain read comes to its sector's bytes, or fails where they cannot be had: the laws of same bytes and of clean reads.
 use Rattle.std.proofs.Common.{◌≡◌, ℕ, ◌<◌, Bool, true, false, List, [], ◌∷◌, take, is_some, sym, refl, ap, ◌∙◌, subst, zero-add, arith}
 use Rattle.sector.specs.Sizes.{bytes_of}
+use Rattle.task_file.specs.declared.bay.Selection.{Selection}
 use Rattle.task_file.specs.declared.command.ReadMode.{ReadMode}
 use Rattle.task_file.specs.declared.state.Job.TheVariants.{Test, Read}
 use Rattle.task_file.specs.declared.state.Phase.TheVariants.{Rest, Busy, Offering}
-use Rattle.task_file.specs.declared.state.State.{State}
 use Rattle.task_file.specs.Registers.{size_at}
 use Rattle.task_file.specs.State.{first_read, with_intrq, is_busy, requests}
 use Rattle.controller.specs.Turns.{worked}
 use Rattle.controller.specs.Model.{ControllerModel, with_state}
-use Rattle.histories.specs.declared.call.Call.{Call}
-use Rattle.histories.specs.declared.call.Call.TheVariants as call
-use Rattle.histories.specs.Runs.{called, runs}
+use Rattle.controller.specs.declared.call.Call.{Call}
+use Rattle.controller.specs.declared.call.Call.TheVariants as call
+use Rattle.controller.specs.Runs.{called, runs}
 use Rattle.std.proofs.lemmas.Bool.{both_ways}
 use Rattle.histories.specs.Working.{InOrder}
 use Rattle.histories.proofs.Orders.{order_call}
-use Rattle.round_trip.specs.Events.{busy, Bay, SectorName, sector_named}
+use Rattle.round_trip.specs.Events.{busy, sector_named}
 use Rattle.round_trip.specs.Ledger.{Writing}
 use Rattle.round_trip.specs.Laws.{outlook_at, StandsUnmarked, BusyThroughout, NoReset}
-use Rattle.round_trip.proofs.Ledgers.{track_same}
 use Rattle.round_trip.proofs.Waiting.{read_waits, write_waits, busy_first}
 use Rattle.round_trip.proofs.Reading.{Begins, Tries, Next, waits, offers, fails, next, settles, unsettled}
 
@@ -36,30 +35,26 @@ test_stays (call.Write n byte ∷ cs) e test on = test_stays cs _ (ap (λ (z : C
 test_stays (call.Turn ∷ cs) e test on = absurd (both_ways (busy (called e call.Turn)) (ap is_busy (test_ends e test)) (busy_first (called e call.Turn) cs on.1))
 test_stays (call.Reset ∷ cs) e test on = test_stays cs _ refl on.1
 
-outlook_same : (e : ControllerModel) (s : State) (name : SectorName) (i : ℕ) → outlook_at (with_state e s) name i ≡ outlook_at e name i
-outlook_same e s name i = grind arith
-
-module _ (b : ControllerModel) (bay : Bay) (head : ℕ) (m : ReadMode) (x : Writing) (begins : Begins b bay head m x) where
+module _ (b : ControllerModel) (at : Selection) (m : ReadMode) (x : Writing) (begins : Begins b at m x) where
   abbrev T : ℕ → ControllerModel → Type 0
-  T = Tries b bay head m x begins
+  T = Tries b at m x begins
 
   -- where it begins, no attempt was made
   pub first_tries : InOrder b → b.state.phase ≡ Busy (Read (first_read m)) → T 0 b
   first_tries order phase =
-      record { few = omega arith; order = order; phase = phase; registers = refl; failure = refl; tracks = refl; outlook = λ i. ap (outlook_at b (sector_named bay head b.state.registers)) (sym (zero-add i)); so_far = λ i less. absurd (omega arith) }
+      record { few = omega arith; order = order; phase = phase; registers = refl; failure = refl; tracks = refl; outlook = λ i. ap (outlook_at b (sector_named at b.state.registers)) (sym (zero-add i)); so_far = λ i less. absurd (omega arith) }
 
   -- the interrupt line is no part of it
   same_tries : (k : ℕ) (e : ControllerModel) (i : Bool) → T k e → InOrder (with_state e (with_intrq e.state i)) → T k (with_state e (with_intrq e.state i))
   same_tries k e i t order =
-      let s = with_intrq e.state i in
       record {
         few = t.few;
         order = order;
         phase = t.phase;
         registers = t.registers;
         failure = t.failure;
-        tracks = track_same e s (sector_named bay head b.state.registers).track ∙ t.tracks;
-        outlook = λ j. outlook_same e s (sector_named bay head b.state.registers) j ∙ t.outlook j;
+        tracks = t.tracks;
+        outlook = t.outlook;
         so_far = t.so_far;
       }
 
@@ -72,7 +67,7 @@ module _ (b : ControllerModel) (bay : Bay) (head : ℕ) (m : ReadMode) (x : Writ
   later c cs e fewer (way k t) = way k t
   later c cs e fewer (reset not_none test) = reset (λ none. not_none (fewer none)) test
 
-  still_waits : (f : ControllerModel) → busy f ≡ true → Next b bay head m x begins f → (j : ℕ) × T j f
+  still_waits : (f : ControllerModel) → busy f ≡ true → Next b at m x begins f → (j : ℕ) × T j f
   still_waits f on (waits j u) = (j, u)
   still_waits f on (offers j few standing settled front failure phase sdh) = absurd (both_ways (busy f) (ap is_busy phase) on)
   still_waits f on (fails why failure off offering asks) = absurd (both_ways (busy f) off on)
@@ -89,21 +84,21 @@ module _ (b : ControllerModel) (bay : Bay) (head : ℕ) (m : ReadMode) (x : Writ
   under_way (call.Turn ∷ cs) k e t on =
       let f = called e call.Turn in
       let on_still : busy f ≡ true = busy_first f cs on.1 in
-      let n = still_waits f on_still (next b bay head m x begins k e t) in
+      let n = still_waits f on_still (next b at m x begins k e t) in
       later call.Turn cs _ (λ z. z) (under_way cs n.0 f n.1 on.1)
   under_way (call.Reset ∷ cs) k e t on = reset (λ none. none) (test_stays cs _ refl on.1)
 
   -- the turn that turns BUSY off ends it
   pub data Ends (e : ControllerModel) : Type 0 where
-    read : (k : ℕ) → k < 9 → StandsUnmarked b (sector_named bay head b.state.registers) → settles b bay head m x begins k → take (bytes_of (size_at b.state.registers.sdh)) e.state.buffer.bytes ≡ x.bytes
+    read : (k : ℕ) → k < 9 → StandsUnmarked b (sector_named at b.state.registers) → settles b at m x begins k → take (bytes_of (size_at b.state.registers.sdh)) e.state.buffer.bytes ≡ x.bytes
         → e.state.failure ≡ b.state.failure → e.state.phase ≡ Offering m 0 → e.state.registers.sdh ≡ b.state.registers.sdh → Ends e
-    failed : (StandsUnmarked b (sector_named bay head b.state.registers) → unsettled b bay head m x begins 9) → is_some e.state.failure ≡ true
+    failed : (StandsUnmarked b (sector_named at b.state.registers) → unsettled b at m x begins 9) → is_some e.state.failure ≡ true
         → (requests e.state.phase ≡ true → e.state.phase ≡ Offering m 0) → (m.multiple ≡ false → requests e.state.phase ≡ true) → Ends e
 
   pub ends : (k : ℕ) (e : ControllerModel) → T k e → busy (called e call.Turn) ≡ false → Ends (called e call.Turn)
-  ends k e t off = by_next (next b bay head m x begins k e t)
+  ends k e t off = by_next (next b at m x begins k e t)
     where
-      by_next : Next b bay head m x begins (called e call.Turn) → Ends (called e call.Turn)
+      by_next : Next b at m x begins (called e call.Turn) → Ends (called e call.Turn)
       by_next (waits j u) = absurd (both_ways (busy (called e call.Turn)) off (ap is_busy u.phase))
       by_next (offers j few standing settled front failure phase sdh) = read j few standing settled front failure phase sdh
       by_next (fails why failure off offering asks) = failed why failure offering asks

@@ -7,8 +7,8 @@ use Rattle.check_code.specs.Code.{check_bytes_of}
 use Rattle.check_code.specs.Mode.{code_of}
 use Rattle.drive.specs.Model.{Sector, no_sector, slot_of, Showing, Outlook, used_up, DriveModel}
 use Rattle.drive.specs.Calls.{nearer, stepped_in, stepped_out, track_under, shown, after_read}
-use Rattle.task_file.specs.declared.registers.Selection.{Selection}
-use Rattle.task_file.specs.declared.registers.Selection.TheVariants.{Winchester, Floppy}
+use Rattle.task_file.specs.declared.bay.Bay.{Bay}
+use Rattle.task_file.specs.declared.bay.Selection.{Selection}
 use Rattle.task_file.specs.declared.registers.Registers.{Registers}
 use Rattle.task_file.specs.declared.command.ReadMode.{ReadMode}
 use Rattle.task_file.specs.declared.state.ReadJob.{ReadJob}
@@ -19,12 +19,12 @@ use Rattle.task_file.specs.declared.state.State.{State}
 use Rattle.task_file.specs.Registers.{cylinder_of, size_at, mode_at, selected}
 use Rattle.task_file.specs.State.{is_busy, requests}
 use Rattle.controller.specs.Turns.{Turned, turned, read_act, worked}
-use Rattle.controller.specs.Model.{ControllerModel}
-use Rattle.histories.specs.declared.call.Call.TheVariants as call
-use Rattle.histories.specs.Runs.{called}
+use Rattle.controller.specs.Model.{ControllerModel, turned_in}
+use Rattle.controller.specs.declared.call.Call.TheVariants as call
+use Rattle.controller.specs.Runs.{called}
 use Rattle.histories.specs.Working.{InOrder}
-use Rattle.histories.proofs.Orders.{order_call}
-use Rattle.round_trip.specs.Events.{Bay, winchester, floppy, drive_in, SectorName, sector_named}
+use Rattle.histories.proofs.Orders.{order_call, drive_put}
+use Rattle.round_trip.specs.Events.{SectorName, sector_named}
 use Rattle.round_trip.specs.Ledger.{Writing}
 use Rattle.round_trip.specs.Laws.{Mild, used_bits, outlook_at, named_by, sector_now, StandsUnmarked, track_of}
 use Rattle.round_trip.proofs.Tracks.{Stands}
@@ -35,39 +35,31 @@ use Rattle.round_trip.proofs.Verdicts.{remembered}
 use Rattle.round_trip.proofs.Attempted.{Tried, offered, again, failed, tried}
 use Rattle.round_trip.proofs.Beginning.{read_selected}
 
--- ---- the drive that a selection means
-abbrev pub selection : Bay → ℕ → Selection
-selection winchester head = Winchester head
-selection floppy head = Floppy head
-
--- the sector that the registers name is on the selected drive, under its head
+-- ---- the selected drive
+-- the sector that the registers name is on it
 pub record Selects (b : ControllerModel) (name : SectorName) : Type 0 where
-  pub bay : Bay
-  pub head : ℕ
-  pub chosen : selected b.state.registers.sdh ≡ Some (selection bay head)
-  pub named : sector_named bay head b.state.registers ≡ name
+  pub at : Selection
+  pub chosen : selected b.state.registers.sdh ≡ Some at
+  pub named : sector_named at b.state.registers ≡ name
 
 pub selects : (b : ControllerModel) (name : SectorName) → sector_now b ≡ Some name → Selects b name
 selects b name e = by_selection (selected b.state.registers.sdh) refl e
   where
     by_selection : (o : Option Selection) → selected b.state.registers.sdh ≡ o → named_by o b ≡ Some name → Selects b name
-    by_selection (Some (Winchester head)) is e = record { bay = winchester; head = head; chosen = is; named = cc }
-    by_selection (Some (Floppy head)) is e = record { bay = floppy; head = head; chosen = is; named = cc }
+    by_selection (Some at) is e = record { at = at; chosen = is; named = cc }
     by_selection None is e = cc
-
-names : (bay : Bay) (head : ℕ) (b : ControllerModel) → named_by (Some (selection bay head)) b ≡ Some (sector_named bay head b.state.registers)
-names winchester head b = refl
-names floppy head b = refl
 
 -- a turn of a job on it
 record Leads (bay : Bay) (t : Turned) (e : ControllerModel) : Type 0 where
   state : e.state ≡ t.state
-  drive : drive_in bay e ≡ t.drive
+  drive : e.drives bay ≡ t.drive
 
-leads : (bay : Bay) (head : ℕ) (b : ControllerModel) (j : Job) → b.state.phase ≡ Busy j → selected b.state.registers.sdh ≡ Some (selection bay head)
-    → Leads bay (worked j b.state head (drive_in bay b)) (called b call.Turn)
-leads winchester head b j phase chosen = record { state = grind arith; drive = grind arith }
-leads floppy head b j phase chosen = record { state = grind arith; drive = grind arith }
+leads : (at : Selection) (b : ControllerModel) (j : Job) → b.state.phase ≡ Busy j → selected b.state.registers.sdh ≡ Some at
+    → Leads at.bay (worked j b.state at (b.drives at.bay)) (called b call.Turn)
+leads at b j phase chosen =
+    let turns : called b call.Turn ≡ turned_in (Busy j) (Some at) b =
+    ap (λ p. turned_in p (selected b.state.registers.sdh) b) phase ∙ ap (λ o. turned_in (Busy j) o b) chosen in
+    record { state = ap (λ (e : ControllerModel). e.state) turns; drive = ap (λ (e : ControllerModel). e.drives at.bay) turns ∙ drive_put b (worked j b.state at (b.drives at.bay)).state at.bay _ }
 
 -- a step moves neither the tracks nor the outlook
 nearer_track : (d : DriveModel) (goal : ℕ) → (nearer d goal).track ≡ d.track
@@ -84,16 +76,16 @@ used_there o c head n goal number i there same = grind (arith, nat_tests)
 
 -- ---- a read from where BUSY came on
 -- A plain read begins at a sector that stands as it was written, and of its next nine attempts each shows at most one burst.
-pub record Begins (b : ControllerModel) (bay : Bay) (head : ℕ) (m : ReadMode) (x : Writing) : Type 0 where
+pub record Begins (b : ControllerModel) (at : Selection) (m : ReadMode) (x : Writing) : Type 0 where
   pub plain : m.long ≡ false
-  pub chosen : selected b.state.registers.sdh ≡ Some (selection bay head)
-  pub written : WrittenThere b (sector_named bay head b.state.registers) x
+  pub chosen : selected b.state.registers.sdh ≡ Some at
+  pub written : WrittenThere b (sector_named at b.state.registers) x
   pub same_mode : mode_at b.state.registers.sdh ≡ x.mode
-  pub mild : (k : ℕ) → k < 9 → Mild (used_bits x.mode (sector_named bay head b.state.registers)) (outlook_at b (sector_named bay head b.state.registers) k)
+  pub mild : (k : ℕ) → k < 9 → Mild (used_bits x.mode (sector_named at b.state.registers)) (outlook_at b (sector_named at b.state.registers) k)
 
-module _ (b : ControllerModel) (bay : Bay) (head : ℕ) (m : ReadMode) (x : Writing) (begins : Begins b bay head m x) where
+module _ (b : ControllerModel) (at : Selection) (m : ReadMode) (x : Writing) (begins : Begins b at m x) where
   abbrev pub name : SectorName
-  name = sector_named bay head b.state.registers
+  name = sector_named at b.state.registers
 
   abbrev long : length x.bytes ≡ bytes_of name.size
   long = begins.written.1
@@ -131,7 +123,7 @@ module _ (b : ControllerModel) (bay : Bay) (head : ℕ) (m : ReadMode) (x : Writ
 
   module _ (k : ℕ) (e : ControllerModel) (t : Tries k e) where
     abbrev d : DriveModel
-    d = drive_in bay e
+    d = e.drives at.bay
 
     abbrev goal : ℕ
     goal = cylinder_of e.state.registers
@@ -139,14 +131,14 @@ module _ (b : ControllerModel) (bay : Bay) (head : ℕ) (m : ReadMode) (x : Writ
     goal_is : goal ≡ name.track.cylinder
     goal_is = ap cylinder_of t.registers
 
-    chosen_still : selected e.state.registers.sdh ≡ Some (selection bay head)
+    chosen_still : selected e.state.registers.sdh ≡ Some at
     chosen_still = ap (λ (r : Registers). selected r.sdh) t.registers ∙ begins.chosen
 
     stands : Stands (track_of e name.track) name.number name.size x.bytes (check_bytes_of (code_of x.mode) x.bytes)
     stands = subst (λ z. Stands z name.number name.size x.bytes (check_bytes_of (code_of x.mode) x.bytes)) (sym t.tracks) begins.written.0
 
     -- a step toward the cylinder
-    step : (f : ControllerModel) → InOrder f → Leads bay (turned e.state (nearer d goal)) f → Tries k f
+    step : (f : ControllerModel) → InOrder f → Leads at.bay (turned e.state (nearer d goal)) f → Tries k f
     step f order l =
         record {
           few = t.few;
@@ -170,10 +162,10 @@ module _ (b : ControllerModel) (bay : Bay) (head : ℕ) (m : ReadMode) (x : Writ
       same_number : e.state.registers.number ≡ name.number
       same_number = ap (λ (r : Registers). r.number) t.registers
 
-      same_track : track_under d head ≡ track_of b name.track
-      same_track = ap (λ c. d.track c head) (there ∙ goal_is) ∙ t.tracks
+      same_track : track_under d at.head ≡ track_of b name.track
+      same_track = ap (λ c. d.track c at.head) (there ∙ goal_is) ∙ t.tracks
 
-      stands_here : Stands (track_under d head) e.state.registers.number name.size x.bytes (check_bytes_of (code_of x.mode) x.bytes)
+      stands_here : Stands (track_under d at.head) e.state.registers.number name.size x.bytes (check_bytes_of (code_of x.mode) x.bytes)
       stands_here =
           record {
             slot = slot;
@@ -182,33 +174,33 @@ module _ (b : ControllerModel) (bay : Bay) (head : ℕ) (m : ReadMode) (x : Writ
             check_are = ap (λ tr. (get_or tr slot no_sector).check) same_track ∙ begins.written.0.check_are;
           }
 
-      shown_here : shown d head e.state.registers.number ≡ shows k
-      shown_here = ap₂ (λ c n. d.outlook c head n 0) (there ∙ goal_is) same_number ∙ t.outlook 0 ∙ ap shows (add-zero k)
+      shown_here : shown d at.head e.state.registers.number ≡ shows k
+      shown_here = ap₂ (λ c n. d.outlook c at.head n 0) (there ∙ goal_is) same_number ∙ t.outlook 0 ∙ ap shows (add-zero k)
 
       -- the mark is that of the sector where BUSY came on
       abbrev mark : List Sector → Bool
       mark tr = (get_or tr slot no_sector).bad
 
-      outlook_after : (i : ℕ) → (after_read d head e.state.registers.number).outlook name.track.cylinder name.track.head name.number i ≡ shows (suc k + i)
+      outlook_after : (i : ℕ) → (after_read d at.head e.state.registers.number).outlook name.track.cylinder name.track.head name.number i ≡ shows (suc k + i)
       outlook_after i =
-          ap (λ (z : DriveModel). z.outlook name.track.cylinder name.track.head name.number i) (after_read_is d head e.state.registers.number ready)
-          ∙ used_there d.outlook d.cylinder head e.state.registers.number name.track.cylinder name.number i (there ∙ goal_is) same_number
+          ap (λ (z : DriveModel). z.outlook name.track.cylinder name.track.head name.number i) (after_read_is d at.head e.state.registers.number ready)
+          ∙ used_there d.outlook d.cylinder at.head e.state.registers.number name.track.cylinder name.number i (there ∙ goal_is) same_number
           ∙ t.outlook (i + 1) ∙ ap shows (omega arith)
 
-      unmarked_then : StandsUnmarked b name → mark (track_under d head) ≡ false
+      unmarked_then : StandsUnmarked b name → mark (track_under d at.head) ≡ false
       unmarked_then standing =
           let same : standing.0 ≡ slot = let e = sym standing.1.0 ∙ begins.written.0.found in cc in
           ap mark same_track ∙ ap (λ i. (get_or (track_of b name.track) i no_sector).bad) (sym same) ∙ standing.1.1
 
-      attempt : (f : ControllerModel) → InOrder f → Leads bay (read_act e.state (job k) head d) f → Next f
+      attempt : (f : ControllerModel) → InOrder f → Leads at.bay (read_act e.state (job k) at d) f → Next f
       unfolding stands_here
       attempt f order l =
           by_tried _ l.state
-          (tried x.mode name.size x.bytes long shows begins.mild m d head e.state.registers.number e.state ready begins.plain stands_here
+          (tried x.mode name.size x.bytes long shows begins.mild m d at e.state.registers.number e.state ready begins.plain stands_here
           (ap (λ (r : Registers). mode_at r.sdh) t.registers ∙ begins.same_mode) (ap (λ (r : Registers). size_at r.sdh) t.registers)
           k t.few _ shown_here refl)
         where
-          by_tried : (u : State) → f.state ≡ u → Tried x.mode name.size x.bytes long shows begins.mild m k (mark (track_under d head)) e.state.registers e.state.failure u → Next f
+          by_tried : (u : State) → f.state ≡ u → Tried x.mode name.size x.bytes long shows begins.mild m k (mark (track_under d at.head)) e.state.registers e.state.failure u → Next f
           by_tried u is (offered unmarked settled front same_failure phase same_sdh) =
               offers k t.few (slot, (begins.written.0.found, ap mark (sym same_track) ∙ unmarked)) settled
               (ap (λ (s : State). take (bytes_of name.size) s.buffer.bytes) is ∙ front)
@@ -222,7 +214,7 @@ module _ (b : ControllerModel) (bay : Bay) (head : ℕ) (m : ReadMode) (x : Writ
                 phase = ap (λ (s : State). s.phase) is ∙ phase;
                 registers = ap (λ (s : State). s.registers) is ∙ same_registers ∙ t.registers;
                 failure = ap (λ (s : State). s.failure) is ∙ same_failure ∙ t.failure;
-                tracks = ap (λ (z : DriveModel). z.track name.track.cylinder name.track.head) (l.drive ∙ after_read_is d head e.state.registers.number ready) ∙ t.tracks;
+                tracks = ap (λ (z : DriveModel). z.track name.track.cylinder name.track.head) (l.drive ∙ after_read_is d at.head e.state.registers.number ready) ∙ t.tracks;
                 outlook = λ i. ap (λ (z : DriveModel). z.outlook name.track.cylinder name.track.head name.number i) l.drive ∙ outlook_after i;
                 so_far = unsettled_more x.mode name.size x.bytes long shows k t.so_far unsettling;
               })
@@ -237,14 +229,14 @@ module _ (b : ControllerModel) (bay : Bay) (head : ℕ) (m : ReadMode) (x : Writ
 
     pub next : Next (called e call.Turn)
     unfolding worked
-    next = by_place (eqb d.cylinder goal) refl (leads bay head e (Read (job k)) t.phase chosen_still)
+    next = by_place (eqb d.cylinder goal) refl (leads at e (Read (job k)) t.phase chosen_still)
       where
         ready : d.ready ≡ true
-        ready = (read_selected e (job k) t.order t.phase name (ap (λ o. named_by o e) chosen_still ∙ names bay head e ∙ ap (λ r. Some (sector_named bay head r)) t.registers)).0
+        ready = (read_selected e (job k) t.order t.phase name (ap (λ o. named_by o e) chosen_still ∙ ap (λ r. Some (sector_named at r)) t.registers)).0
 
         order : InOrder (called e call.Turn)
         order = order_call e call.Turn t.order
 
-        by_place : (there : Bool) → eqb d.cylinder goal ≡ there → Leads bay (cond there (read_act e.state (job k) head d) (turned e.state (nearer d goal))) (called e call.Turn) → Next (called e call.Turn)
+        by_place : (there : Bool) → eqb d.cylinder goal ≡ there → Leads at.bay (cond there (read_act e.state (job k) at d) (turned e.state (nearer d goal))) (called e call.Turn) → Next (called e call.Turn)
         by_place true is l = attempt (eqb-true d.cylinder goal is) ready _ order l
         by_place false is l = waits k (step _ order l)

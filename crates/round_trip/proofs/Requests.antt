@@ -3,7 +3,6 @@ use Rattle.std.proofs.Common.{◌≡◌, ℕ, Bool, true, false, cond, not, ◌&
 use Rattle.std.proofs.lemmas.List.{append-nil}
 use Rattle.std.proofs.lemmas.Bool.{and_from, not_from_false, cases_Bool}
 use Rattle.std.proofs.lemmas.Bool.Decides.{nat_tests}
-use Rattle.drive.specs.Model.{DriveModel}
 use Rattle.task_file.specs.declared.command.Command.{Command}
 use Rattle.task_file.specs.declared.command.Command.TheVariants.{Read}
 use Rattle.task_file.specs.declared.command.ReadMode.{ReadMode}
@@ -14,14 +13,14 @@ use Rattle.task_file.specs.State.{is_busy, requests}
 use Rattle.task_file.specs.Beginning.{begun}
 use Rattle.task_file.specs.Moving.{drawn}
 use Rattle.controller.specs.Access.{state_after_read}
-use Rattle.controller.specs.Model.{ControllerModel, made, seen}
-use Rattle.histories.specs.declared.call.Call.{Call}
-use Rattle.histories.specs.declared.call.Call.TheVariants as call
-use Rattle.histories.specs.Runs.{called, runs, at}
-use Rattle.histories.proofs.Runs.{runs_joined}
+use Rattle.controller.specs.Model.{ControllerModel, seen}
+use Rattle.controller.specs.declared.call.Call.{Call}
+use Rattle.controller.specs.declared.call.Call.TheVariants as call
+use Rattle.controller.specs.Runs.{called, runs, IsNew}
+use Rattle.controller.proofs.Runs.{runs_joined}
 use Rattle.round_trip.specs.Events.{busy, drq_comes_on}
 use Rattle.round_trip.specs.Ledger.{Notes, no_notes, forced_by, noted, notes_from, notes_of}
-use Rattle.round_trip.specs.Laws.{BusyThroughout, BusySince, EveryRequest, ADrive}
+use Rattle.round_trip.specs.Laws.{BusyThroughout, BusySince, EveryRequest}
 use Rattle.round_trip.proofs.Accessed as access
 use Rattle.round_trip.proofs.Waiting.{busy_first}
 
@@ -63,23 +62,23 @@ unfolding runs notes_from
 notes_joined b n [] ds = refl
 notes_joined b n (c ∷ cs) ds = notes_joined (called b c) (noted b c n) cs ds
 
-module _ (w f : DriveModel) (m : ReadMode) where
+module _ (new : ControllerModel) (m : ReadMode) where
   abbrev pub InForce : List Call → Type 0
-  InForce history = (notes_of w f history).in_force ≡ Some (Read m)
+  InForce history = (notes_of new history).in_force ≡ Some (Read m)
 
   -- the read is in force after a history, and BUSY is on all along the calls behind it
   abbrev pub BusyBehind : List Call → List Call → Type 0
-  BusyBehind history cs = BusyThroughout (at w f history) cs × InForce history
+  BusyBehind history cs = BusyThroughout (runs new history) cs × InForce history
 
   -- one call earlier BUSY was on too, or that call turned it on
-  one_earlier : (history : List Call) (c : Call) (cs : List Call) → BusyBehind (history ++ (c ∷ [])) cs → BusyBehind history (c ∷ cs) ⊎ BusySince w f (history ++ (c ∷ cs)) m
+  one_earlier : (history : List Call) (c : Call) (cs : List Call) → BusyBehind (history ++ (c ∷ [])) cs → BusyBehind history (c ∷ cs) ⊎ BusySince new (history ++ (c ∷ cs)) m
   unfolding runs notes_from
   one_earlier history c cs behind =
-      let b = at w f history in
-      let on : BusyThroughout (called b c) cs = subst (λ e. BusyThroughout e cs) (runs_joined (made w f) history (c ∷ [])) behind.0 in
-      let forced : forced_by b c (notes_of w f history).in_force ≡ Some (Read m) = subst (λ n. n.in_force ≡ Some (Read m)) (notes_joined (made w f) no_notes history (c ∷ [])) behind.1 in
+      let b = runs new history in
+      let on : BusyThroughout (called b c) cs = subst (λ e. BusyThroughout e cs) (runs_joined new history (c ∷ [])) behind.0 in
+      let forced : forced_by b c (notes_of new history).in_force ≡ Some (Read m) = subst (λ n. n.in_force ≡ Some (Read m)) (notes_joined new no_notes history (c ∷ [])) behind.1 in
       elim (cases_Bool (busy b)) [
-        | inl busy_before ↦ inl ((busy_before, on), busy_forces b c (notes_of w f history).in_force m busy_before forced)
+        | inl busy_before ↦ inl ((busy_before, on), busy_forces b c (notes_of new history).in_force m busy_before forced)
         | inr off ↦ inr (record {
           before = history;
           first = c;
@@ -92,19 +91,19 @@ module _ (w f : DriveModel) (m : ReadMode) where
       ]
 
   -- back from the last call to the one that turned BUSY on, or to the first
-  back : (cs history : List Call) → busy (at w f (history ++ cs)) ≡ true → InForce (history ++ cs) → BusyBehind history cs ⊎ BusySince w f (history ++ cs) m
+  back : (cs history : List Call) → busy (runs new (history ++ cs)) ≡ true → InForce (history ++ cs) → BusyBehind history cs ⊎ BusySince new (history ++ cs) m
   back [] history on forced =
       let none = append-nil history in
-      inl (subst (λ h. busy (at w f h) ≡ true) none on, subst InForce none forced)
+      inl (subst (λ h. busy (runs new h) ≡ true) none on, subst InForce none forced)
   back (c ∷ cs) history on forced =
       let joined = append_assoc history (c ∷ []) cs in
-      elim (back cs (history ++ (c ∷ [])) (subst (λ h. busy (at w f h) ≡ true) (sym joined) on) (subst InForce (sym joined) forced)) [
+      elim (back cs (history ++ (c ∷ [])) (subst (λ h. busy (runs new h) ≡ true) (sym joined) on) (subst InForce (sym joined) forced)) [
         | inl behind ↦ one_earlier history c cs behind
-        | inr found ↦ inr (subst (λ h. BusySince w f h m) joined found)
+        | inr found ↦ inr (subst (λ h. BusySince new h m) joined found)
       ]
 
   -- at the making no command is in force
-  busy_since : (history : List Call) → busy (at w f history) ≡ true → InForce history → BusySince w f history m
+  busy_since : (history : List Call) → busy (runs new history) ≡ true → InForce history → BusySince new history m
   unfolding notes_from
   busy_since history on forced =
       elim (back history [] on forced) [
@@ -113,8 +112,8 @@ module _ (w f : DriveModel) (m : ReadMode) where
       ]
 
 -- ---- each request
-pub every_request : (w f : DriveModel) → ADrive w → ADrive f → (history : List Call) → EveryRequest w f history
+pub every_request : (new : ControllerModel) → IsNew new → (history : List Call) → EveryRequest new history
 unfolding notes_from
-every_request w f aw af history before c rest m split on forced =
-    let now = raised (at w f before) (notes_of w f before) c m on (subst (λ n. n.in_force ≡ Some (Read m)) (notes_joined (made w f) no_notes before (c ∷ [])) forced) in
-    (now.0, busy_since w f m before now.1 now.2)
+every_request new is_new history before c rest m split on forced =
+    let now = raised (runs new before) (notes_of new before) c m on (subst (λ n. n.in_force ≡ Some (Read m)) (notes_joined new no_notes before (c ∷ [])) forced) in
+    (now.0, busy_since new m before now.1 now.2)

@@ -13,9 +13,8 @@ use Rattle.sector.proofs.Inverted.{length-inverted}
 use Rattle.drive.specs.declared.buffer.SectorBuffer.{SectorBuffer}
 use Rattle.drive.specs.declared.answers.SectorId.{SectorId}
 use Rattle.drive.specs.Model.{Sector, no_sector, slot_of, blank_track, Showing, no_id, no_data_mark, wrong_bits, DriveModel, with_track, replaced, track}
-use Rattle.drive.specs.Bounds.{Whole}
+use Rattle.drive.specs.Bounds.{Whole, ADrive}
 use Rattle.drive.specs.Calls.{nearer, on_slot, track_under, shown, attempted, delivered, attempted_at, stepped_in, stepped_out, handed_over, after_read, written, after_write, after_format}
-use Rattle.round_trip.specs.Laws.{ADrive}
 use Rattle.round_trip.proofs.Tracks.{meant_at, blank_at}
 use Rattle.round_trip.proofs.Attempts as attempt
 

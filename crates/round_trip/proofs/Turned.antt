@@ -6,6 +6,8 @@ use Rattle.drive.specs.declared.buffer.SectorBuffer.{SectorBuffer}
 use Rattle.drive.specs.declared.answers.WriteError.{WriteError}
 use Rattle.drive.specs.Model.{slot_of, blank_track, DriveModel, replaced}
 use Rattle.drive.specs.Calls.{nearer, stepped_in, stepped_out, read_answer, handed_over, after_read, write_answer, format_answer}
+use Rattle.task_file.specs.declared.bay.Bay.{Bay}
+use Rattle.task_file.specs.declared.bay.Selection.{Selection}
 use Rattle.task_file.specs.declared.command.Command.{Command}
 use Rattle.task_file.specs.declared.command.Command.TheVariants as command
 use Rattle.task_file.specs.declared.state.ReadJob.{ReadJob}
@@ -18,7 +20,7 @@ use Rattle.task_file.specs.Registers.{cylinder_of, size_at, mode_at, sector_coun
 use Rattle.task_file.specs.State.{with_phase, with_buffer, ended, requests}
 use Rattle.task_file.specs.Attempts.{ids_of, zero_check}
 use Rattle.controller.specs.Turns.{Turned, turned, restore_turn, once_there, read_act, write_act, format_act, ids_asked, worked}
-use Rattle.round_trip.specs.Events.{track_named, sector_named, Bay, Event, nothing, sector_written, track_formatted}
+use Rattle.round_trip.specs.Events.{track_named, sector_named, Event, nothing, sector_written, track_formatted}
 use Rattle.round_trip.proofs.Tracks.{rewritten_at}
 use Rattle.round_trip.proofs.Attempts as attempt
 use Rattle.round_trip.proofs.Sound.{Sound, Buffered, sound_out, sound_nearer, sound_read, sound_write, sound_format, handed_buffered}
@@ -58,33 +60,33 @@ pub record Leaves (bay : Bay) (taken : List ℕ) (o : Option Command) (s : State
   pub changes : Changes bay d t.drive s.buffer event
 
 -- the events of a write and of a format at the cylinder of the registers, where the drive does them
-abbrev pub written_event : Bay → ℕ → State → WriteJob → Event
-written_event bay head s j = sector_written (sector_named bay head s.registers) (mode_at s.registers.sdh) (not j.mode.long)
+abbrev pub written_event : Selection → State → WriteJob → Event
+written_event at s j = sector_written (sector_named at s.registers) (mode_at s.registers.sdh) (not j.mode.long)
 
-abbrev pub formatted_event : Bay → ℕ → State → Event
-formatted_event bay head s = track_formatted (track_named bay head s.registers) (min (sector_count s.registers) 64) (size_at s.registers.sdh) (mode_at s.registers.sdh)
+abbrev pub formatted_event : Selection → State → Event
+formatted_event at s = track_formatted (track_named at s.registers) (min (sector_count s.registers) 64) (size_at s.registers.sdh) (mode_at s.registers.sdh)
 
 -- the same, by what the drive answers and whether the head is there
-abbrev pub write_event_by : Bool → Bay → ℕ → State → WriteJob → DriveModel → Event
-write_event_by there bay head s j d =
-    cond (there && is_ok (write_answer d head s.registers.number (size_at s.registers.sdh))) (written_event bay head s j) nothing
+abbrev pub write_event_by : Bool → Selection → State → WriteJob → DriveModel → Event
+write_event_by there at s j d =
+    cond (there && is_ok (write_answer d at.head s.registers.number (size_at s.registers.sdh))) (written_event at s j) nothing
 
-abbrev pub format_event_by : Bool → Bay → ℕ → State → DriveModel → Event
-format_event_by there bay head s d =
-    cond (there && is_ok (format_answer d head (ids_asked s) (size_at s.registers.sdh))) (formatted_event bay head s) nothing
+abbrev pub format_event_by : Bool → Selection → State → DriveModel → Event
+format_event_by there at s d =
+    cond (there && is_ok (format_answer d at.head (ids_asked s) (size_at s.registers.sdh))) (formatted_event at s) nothing
 
 -- the event of a job's turn
-abbrev pub job_event : Bay → ℕ → State → DriveModel → Job → Event
-job_event bay head s d Test = nothing
-job_event bay head s d (Restore steps) = nothing
-job_event bay head s d Seek = nothing
-job_event bay head s d (Read j) = nothing
-job_event bay head s d (Write j) = write_event_by (eqb d.cylinder (cylinder_of s.registers)) bay head s j d
-job_event bay head s d Format = format_event_by (eqb d.cylinder (cylinder_of s.registers)) bay head s d
+abbrev pub job_event : Selection → State → DriveModel → Job → Event
+job_event at s d Test = nothing
+job_event at s d (Restore steps) = nothing
+job_event at s d Seek = nothing
+job_event at s d (Read j) = nothing
+job_event at s d (Write j) = write_event_by (eqb d.cylinder (cylinder_of s.registers)) at s j d
+job_event at s d Format = format_event_by (eqb d.cylinder (cylinder_of s.registers)) at s d
 
-module _ (bay : Bay) (taken : List ℕ) (o : Option Command) (head : ℕ) (s : State) (d : DriveModel) (sound : Sound d) where
+module _ (at : Selection) (taken : List ℕ) (o : Option Command) (s : State) (d : DriveModel) (sound : Sound d) where
   abbrev R : Event → Turned → Type 0
-  R = Leaves bay taken o s d
+  R = Leaves at.bay taken o s d
 
   abbrev goal : ℕ
   goal = cylinder_of s.registers
@@ -113,58 +115,58 @@ module _ (bay : Bay) (taken : List ℕ) (o : Option Command) (head : ℕ) (s : S
       })
       (λ _. record { sound = sound; kept = record { buffered = k.buffered; fits = tt; agrees = tt }; changes = λ c h. refl }))
 
-  read_result : (j : ReadJob) → o ≡ Some (command.Read j.mode) → Buffered s.buffer → R nothing (read_act s j head d)
+  read_result : (j : ReadJob) → o ≡ Some (command.Read j.mode) → Buffered s.buffer → R nothing (read_act s j at d)
   read_result j a f =
       let number = s.registers.number in
       let size = size_at s.registers.sdh in
       record {
-        sound = sound_read d head number sound;
-        kept = read_kept _ o j a (read_answer d head number size) (with_buffer s (handed_over d head number size s.buffer)) head (handed_buffered d head number size s.buffer sound f);
-        changes = unchanged_read d head number;
+        sound = sound_read d at.head number sound;
+        kept = read_kept _ o j a (read_answer d at.head number size) (with_buffer s (handed_over d at.head number size s.buffer)) at (handed_buffered d at.head number size s.buffer sound f);
+        changes = unchanged_read d at.head number;
       }
 
   -- a write attempt at its cylinder
-  write_changes : (j : WriteJob) → d.cylinder ≡ goal → (a : Result (Unit {0}) WriteError) (e : DriveModel) → attempt.Wrote d head s.registers.number (size_at s.registers.sdh) s.buffer a e
-      → Changes bay d e s.buffer (cond (is_ok a) (written_event bay head s j) nothing)
+  write_changes : (j : WriteJob) → d.cylinder ≡ goal → (a : Result (Unit {0}) WriteError) (e : DriveModel) → attempt.Wrote d at.head s.registers.number (size_at s.registers.sdh) s.buffer a e
+      → Changes at.bay d e s.buffer (cond (is_ok a) (written_event at s j) nothing)
   write_changes j there a e (attempt.replaced k slot done is) = rw (done, is, ← there) (refl, (k, (slot, λ c h. refl)))
   write_changes j there a e (attempt.kept not_done is) = rw not_done (λ c h. grind arith)
 
-  write_result : (j : WriteJob) → s.phase ≡ Busy (Write j) → Kept taken o s → R (write_event_by (eqb d.cylinder goal) bay head s j d) (once_there s d (write_act s j head d))
+  write_result : (j : WriteJob) → s.phase ≡ Busy (Write j) → Kept taken o s → R (write_event_by (eqb d.cylinder goal) at s j d) (once_there s d (write_act s j at d))
   write_result j e k = by_place (eqb d.cylinder goal) refl
     where
       again : Kept taken o (with_phase s (Busy (Write j)))
       again = record { buffered = k.buffered; fits = subst (λ p. TakenFits p s.registers s.buffer taken) e k.fits; agrees = subst (λ p. Agrees p o) e k.agrees }
 
-      by_place : (there : Bool) → eqb d.cylinder goal ≡ there → R (write_event_by there bay head s j d) (cond there (write_act s j head d) (turned s (nearer d goal)))
+      by_place : (there : Bool) → eqb d.cylinder goal ≡ there → R (write_event_by there at s j d) (cond there (write_act s j at d) (turned s (nearer d goal)))
       by_place false is = step_result (Write j) e k
       by_place true is =
           record {
-            sound = sound_write d head s.registers.number (size_at s.registers.sdh) s.buffer k.buffered sound;
-            kept = write_kept taken o s j again (write_answer d head s.registers.number (size_at s.registers.sdh)) head;
-            changes = write_changes j (eqb-true d.cylinder goal is) _ _ (attempt.wrote d head s.registers.number (size_at s.registers.sdh) s.buffer);
+            sound = sound_write d at.head s.registers.number (size_at s.registers.sdh) s.buffer k.buffered sound;
+            kept = write_kept taken o s j again (write_answer d at.head s.registers.number (size_at s.registers.sdh)) at;
+            changes = write_changes j (eqb-true d.cylinder goal is) _ _ (attempt.wrote d at.head s.registers.number (size_at s.registers.sdh) s.buffer);
           }
 
   -- a format at its cylinder
-  format_changes : d.cylinder ≡ goal → (done : Bool) (e : DriveModel) → attempt.Formats d head (ids_asked s) (size_at s.registers.sdh) (zero_check (mode_at s.registers.sdh) (size_at s.registers.sdh)) done e
-      → Changes bay d e s.buffer (cond done (formatted_event bay head s) nothing)
+  format_changes : d.cylinder ≡ goal → (done : Bool) (e : DriveModel) → attempt.Formats d at.head (ids_asked s) (size_at s.registers.sdh) (zero_check (mode_at s.registers.sdh) (size_at s.registers.sdh)) done e
+      → Changes at.bay d e s.buffer (cond done (formatted_event at s) nothing)
   format_changes there done e (attempt.laid is_done is) = rw (is_done, is, ← there) (refl, λ c h. refl)
   format_changes there done e (attempt.refused not_done is) = rw not_done (λ c h. grind arith)
 
-  format_result : s.phase ≡ Busy Format → Kept taken o s → R (format_event_by (eqb d.cylinder goal) bay head s d) (once_there s d (format_act s head d))
+  format_result : s.phase ≡ Busy Format → Kept taken o s → R (format_event_by (eqb d.cylinder goal) at s d) (once_there s d (format_act s at d))
   format_result e k = by_place (eqb d.cylinder goal) refl
     where
-      by_place : (there : Bool) → eqb d.cylinder goal ≡ there → R (format_event_by there bay head s d) (cond there (format_act s head d) (turned s (nearer d goal)))
+      by_place : (there : Bool) → eqb d.cylinder goal ≡ there → R (format_event_by there at s d) (cond there (format_act s at d) (turned s (nearer d goal)))
       by_place false is = step_result Format e k
       by_place true is =
           let size = size_at s.registers.sdh in
           let check = zero_check (mode_at s.registers.sdh) size in
           record {
-            sound = sound_format d head (ids_asked s) size check refl sound;
-            kept = format_kept _ o s k.buffered (format_answer d head (ids_asked s) size);
-            changes = format_changes (eqb-true d.cylinder goal is) _ _ (attempt.formats d head (ids_asked s) size check);
+            sound = sound_format d at.head (ids_asked s) size check refl sound;
+            kept = format_kept _ o s k.buffered (format_answer d at.head (ids_asked s) size);
+            changes = format_changes (eqb-true d.cylinder goal is) _ _ (attempt.formats d at.head (ids_asked s) size check);
           }
 
-  pub turned_result : (j : Job) → s.phase ≡ Busy j → Kept taken o s → Leaves bay taken o s d (job_event bay head s d j) (worked j s head d)
+  pub turned_result : (j : Job) → s.phase ≡ Busy j → Kept taken o s → Leaves at.bay taken o s d (job_event at s d j) (worked j s at d)
   unfolding worked
   turned_result Test e k = ended_result k.buffered
   turned_result (Restore steps) e k = restore_result steps e k

@@ -2,9 +2,7 @@
 use Rattle.std.proofs.Common.{◌≡◌, ℕ, ◌+◌, ◌-◌, ◌<◌, ◌≤◌, Bool, true, false, ◌⊎◌, List, [], ◌∷◌, ◌++◌, Some, None, Option, sym, refl, ap, ◌∙◌, subst, inl, inr, append_assoc, arith}
 use Rattle.std.proofs.lemmas.Bool.{both_ways, cases_lt, cases_eq, cases_Bool}
 use Rattle.std.proofs.lemmas.Bool.Decides.{nat_tests}
-use Rattle.drive.specs.Model.{DriveModel}
-use Rattle.task_file.specs.declared.registers.Selection.{Selection}
-use Rattle.task_file.specs.declared.registers.Selection.TheVariants.{Winchester, Floppy}
+use Rattle.task_file.specs.declared.bay.Selection.{Selection}
 use Rattle.task_file.specs.declared.state.Job.{Job}
 use Rattle.task_file.specs.declared.state.Phase.{Phase}
 use Rattle.task_file.specs.declared.state.Phase.TheVariants.{Busy}
@@ -13,20 +11,20 @@ use Rattle.task_file.specs.declared.view.DriveView.{DriveView}
 use Rattle.task_file.specs.Registers.{cylinder_of, selected}
 use Rattle.task_file.specs.State.{with_intrq, is_busy}
 use Rattle.controller.specs.Access.{state_after_read, state_after_write}
-use Rattle.controller.specs.Turns.{Turned, worked, without_drive}
-use Rattle.controller.specs.Model.{ControllerModel, with_state, seen, turned_in}
-use Rattle.histories.specs.declared.call.Call.{Call}
-use Rattle.histories.specs.declared.call.Call.TheVariants as call
-use Rattle.histories.specs.Runs.{called, runs, at}
+use Rattle.controller.specs.Turns.{Turned, worked}
+use Rattle.controller.specs.Model.{ControllerModel, with_state, with_drive, seen, turned_in}
+use Rattle.controller.specs.declared.call.Call.{Call}
+use Rattle.controller.specs.declared.call.Call.TheVariants as call
+use Rattle.controller.specs.Runs.{called, runs, IsNew}
 use Rattle.histories.specs.Working.{InOrder}
-use Rattle.histories.proofs.Runs.{runs_joined}
+use Rattle.controller.proofs.Runs.{runs_joined}
 use Rattle.histories.proofs.Working.{left_in}
 use Rattle.histories.proofs.Orders.{head_in, left, turn_falls, order_call, none_left, Within, left_most}
-use Rattle.round_trip.specs.Events.{busy, Bay, winchester, floppy, drive_in, turn_event_on, event_of}
+use Rattle.round_trip.specs.Events.{busy, turn_event_on, turn_event, event_of}
 use Rattle.round_trip.specs.Ledger.{Notes, notes_of}
-use Rattle.round_trip.specs.Laws.{BusyThroughout, turn_count, LeftAlone, NothingElseMoves, BusyEnds, ADrive}
-use Rattle.round_trip.proofs.Ledgers.{track_same, left_alone}
-use Rattle.round_trip.proofs.Held.{Held, held_at, put_drive, event_is, job_turn, event_by, event_by_is, idle_event}
+use Rattle.round_trip.specs.Laws.{BusyThroughout, turn_count, LeftAlone, NothingElseMoves, BusyEnds}
+use Rattle.round_trip.proofs.Ledgers.{left_alone}
+use Rattle.round_trip.proofs.Held.{Held, held_at, event_is, job_turn, idle_event}
 
 -- ---- calls while BUSY is on
 -- a read can only turn the interrupt off
@@ -147,45 +145,40 @@ goes_off cs n b o few enough =
     ]
 
 -- wherever a history leads, at most 1,032 turns are left
-pub left_at : (w f : DriveModel) → ADrive w → ADrive f → (history : List Call) → left (at w f history) ≤ 1032
-left_at w f aw af history =
-    let h = held_at w f aw af history in
-    let within : Within 1024 (at w f history) =
+pub left_at : (new : ControllerModel) → IsNew new → (history : List Call) → left (runs new history) ≤ 1032
+left_at new is_new history =
+    let h = held_at new is_new history in
+    let within : Within 1024 (runs new history) =
     record {
-      winchester_stands = omega (arith, h.winchester_sound.inside, h.winchester_sound.few);
-      winchester_ends = h.winchester_sound.few;
-      floppy_stands = omega (arith, h.floppy_sound.inside, h.floppy_sound.few);
-      floppy_ends = h.floppy_sound.few;
+      stands = λ bay. omega (arith, (h.sound bay).inside, (h.sound bay).few);
+      ends = λ bay. (h.sound bay).few;
     } in
-    left_most 1024 (at w f history) within h.order
+    left_most 1024 (runs new history) within h.order
 
-pub busy_ends : (w f : DriveModel) → ADrive w → ADrive f → (history : List Call) → BusyEnds w f history
-busy_ends w f aw af history before after split enough =
-    goes_off after 1032 (at w f before) (held_at w f aw af before).order (left_at w f aw af before) enough
+pub busy_ends : (new : ControllerModel) → IsNew new → (history : List Call) → BusyEnds new history
+busy_ends new is_new history before after split enough =
+    goes_off after 1032 (runs new before) (held_at new is_new before).order (left_at new is_new before) enough
 
 -- ---- nothing else moves
 -- a turn on one of the drives
-alone_job : (bay : Bay) (head : ℕ) (j : Job) (n : Notes) (b : ControllerModel) → Held n b → b.state.phase ≡ Busy j
-    → (t : Turned) → t ≡ worked j b.state head (drive_in bay b) → (e : ControllerModel) → e ≡ put_drive bay b t.state t.drive
-    → LeftAlone (turn_event_on (Busy j) bay head b) b e
-alone_job bay head j n b h phase t is e made =
-    let r = job_turn bay head j n b h phase t is e made in
-    rw (event_is j bay head b) (left_alone bay b e r.others b.state.buffer _ r.changes)
+alone_job : (at : Selection) (j : Job) (n : Notes) (b : ControllerModel) → Held n b → b.state.phase ≡ Busy j
+    → (t : Turned) → t ≡ worked j b.state at (b.drives at.bay) → (e : ControllerModel) → e ≡ with_drive b t.state at.bay t.drive
+    → LeftAlone (turn_event_on (Busy j) at b) b e
+alone_job at j n b h phase t is e made =
+    let r = job_turn at j n b h phase t is e made in
+    rw (event_is j at b) (left_alone at.bay b e r.others b.state.buffer _ r.changes)
 
-alone_turn : (p : Phase) (sel : Option Selection) (n : Notes) (b : ControllerModel) → b.state.phase ≡ p → Held n b → LeftAlone (event_by p sel b) b (turned_in p sel b)
-alone_turn (Busy j) (Some (Winchester head)) n b phase h = alone_job winchester head j n b h phase _ refl _ refl
-alone_turn (Busy j) (Some (Floppy head)) n b phase h = alone_job floppy head j n b h phase _ refl _ refl
-alone_turn (Busy j) None n b phase h = track_same b (without_drive j b.state)
+alone_turn : (p : Phase) (sel : Option Selection) (n : Notes) (b : ControllerModel) → b.state.phase ≡ p → Held n b → LeftAlone (turn_event p sel b) b (turned_in p sel b)
+alone_turn (Busy j) (Some at) n b phase h = alone_job at j n b h phase _ refl _ refl
+alone_turn (Busy j) None n b phase h = λ t. refl
 alone_turn p sel n b phase h = rw (idle_event p sel b refl) (λ t. refl)
 
 alone_call : (n : Notes) (b : ControllerModel) (c : Call) → Held n b → LeftAlone (event_of b c) b (called b c)
 unfolding event_of
-alone_call n b (call.Read number) h = track_same b _
-alone_call n b (call.Write number byte) h = track_same b _
-alone_call n b call.Turn h =
-    let sel = selected b.state.registers.sdh in
-    rw (event_by_is sel b) (alone_turn b.state.phase sel n b refl h)
-alone_call n b call.Reset h = track_same b _
+alone_call n b (call.Read number) h = λ t. refl
+alone_call n b (call.Write number byte) h = λ t. refl
+alone_call n b call.Turn h = alone_turn b.state.phase (selected b.state.registers.sdh) n b refl h
+alone_call n b call.Reset h = λ t. refl
 
-pub nothing_else_moves : (w f : DriveModel) → ADrive w → ADrive f → (history : List Call) → NothingElseMoves w f history
-nothing_else_moves w f aw af history before c rest split = alone_call (notes_of w f before) (at w f before) c (held_at w f aw af before)
+pub nothing_else_moves : (new : ControllerModel) → IsNew new → (history : List Call) → NothingElseMoves new history
+nothing_else_moves new is_new history before c rest split = alone_call (notes_of new before) (runs new before) c (held_at new is_new before)

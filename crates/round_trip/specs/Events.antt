@@ -3,22 +3,22 @@ use Rattle.std.specs.Prelude.{ℕ, min, Bool, true, false, cond, not, ◌&&◌, 
 use Rattle.sector.specs.declared.size.SizeCode.{SizeCode}
 use Rattle.sector.specs.Sizes.{number_of}
 use Rattle.check_code.specs.declared.mode.CheckMode.{CheckMode}
-use Rattle.drive.specs.Model.{DriveModel}
 use Rattle.drive.specs.Calls.{write_answer, format_answer}
 use Rattle.task_file.specs.declared.registers.Registers.{Registers}
-use Rattle.task_file.specs.declared.registers.Selection.{Selection}
-use Rattle.task_file.specs.declared.registers.Selection.TheVariants.{Winchester, Floppy}
+use Rattle.task_file.specs.declared.bay.Bay.{Bay}
+use Rattle.task_file.specs.declared.bay.Selection.{Selection}
 use Rattle.task_file.specs.declared.state.WriteJob.{WriteJob}
 use Rattle.task_file.specs.declared.state.Job.TheVariants.{Test, Restore, Seek, Read, Write, Format}
 use Rattle.task_file.specs.declared.state.Phase.{Phase}
 use Rattle.task_file.specs.declared.state.Phase.TheVariants.{Rest, Busy, Offering, Taking}
+use Rattle.task_file.specs.Bays.{same_bay}
 use Rattle.task_file.specs.Registers.{cylinder_of, size_at, mode_at, selected, sector_count}
 use Rattle.task_file.specs.State.{is_busy, requests}
 use Rattle.controller.specs.Turns.{ids_asked}
 use Rattle.controller.specs.Model.{ControllerModel}
-use Rattle.histories.specs.declared.call.Call.{Call}
-use Rattle.histories.specs.declared.call.Call.TheVariants as call
-use Rattle.histories.specs.Runs.{Answer, answer_to, called}
+use Rattle.controller.specs.declared.call.Call.{Call}
+use Rattle.controller.specs.declared.call.Call.TheVariants as call
+use Rattle.controller.specs.Runs.{Answer, answer_to, called}
 
 -- ---- lines and commands
 -- BUSY, DRQ and Error, as the host sees them
@@ -55,24 +55,7 @@ abbrev pub busy_comes_on : ControllerModel → Call → Bool
 busy_comes_on b c = busy (called b c) && not (busy b)
 
 -- ---- sectors by name
--- one of the two drives
-pub data Bay : Type 0 where
-  winchester : Bay
-  floppy : Bay
-
--- two bays are one
-abbrev pub same_bay : Bay → Bay → Bool
-same_bay winchester winchester = true
-same_bay winchester floppy = false
-same_bay floppy winchester = false
-same_bay floppy floppy = true
-
--- the drive in a bay
-abbrev pub drive_in : Bay → ControllerModel → DriveModel
-drive_in winchester b = b.winchester
-drive_in floppy b = b.floppy
-
--- a track: drive, cylinder and head
+-- a track: bay, cylinder and head
 pub record TrackName : Type 0 where
   pub bay : Bay
   pub cylinder : ℕ
@@ -96,13 +79,13 @@ same_size a b = number_of a == number_of b
 abbrev pub same_sector : SectorName → SectorName → Bool
 same_sector s t = same_track s.track t.track && (s.number == t.number && same_size s.size t.size)
 
--- the track that the registers name, on a drive under a head
-abbrev pub track_named : Bay → ℕ → Registers → TrackName
-track_named bay head r = record { bay = bay; cylinder = cylinder_of r; head = head }
+-- the track that the registers name, on a selected drive
+abbrev pub track_named : Selection → Registers → TrackName
+track_named at r = record { bay = at.bay; cylinder = cylinder_of r; head = at.head }
 
 -- and the sector there
-abbrev pub sector_named : Bay → ℕ → Registers → SectorName
-sector_named bay head r = record { track = track_named bay head r; number = r.number; size = size_at r.sdh }
+abbrev pub sector_named : Selection → Registers → SectorName
+sector_named at r = record { track = track_named at r; number = r.number; size = size_at r.sdh }
 
 -- ---- writing and formatting
 -- What a turn does to the disks: nothing, a sector written, or a track formatted.
@@ -114,44 +97,43 @@ pub data Event : Type 0 where
   track_formatted : TrackName → ℕ → SizeCode → CheckMode → Event
 
 -- a write attempt is made on the turn that finds the cylinder, and replaces the sector where the drive answers so
-abbrev pub write_event : WriteJob → Bay → ℕ → ControllerModel → Event
-write_event j bay head b =
+abbrev pub write_event : WriteJob → Selection → ControllerModel → Event
+write_event j at b =
     let r = b.state.registers in
     cond
-    ((drive_in bay b).cylinder == cylinder_of r && is_ok (write_answer (drive_in bay b) head r.number (size_at r.sdh)))
-    (sector_written (sector_named bay head r) (mode_at r.sdh) (not j.mode.long))
+    ((b.drives at.bay).cylinder == cylinder_of r && is_ok (write_answer (b.drives at.bay) at.head r.number (size_at r.sdh)))
+    (sector_written (sector_named at r) (mode_at r.sdh) (not j.mode.long))
     nothing
 
 -- likewise a format; one of more than 64 sectors is aborted
-abbrev pub format_event : Bay → ℕ → ControllerModel → Event
-format_event bay head b =
+abbrev pub format_event : Selection → ControllerModel → Event
+format_event at b =
     let r = b.state.registers in
     cond
-    ((drive_in bay b).cylinder == cylinder_of r && is_ok (format_answer (drive_in bay b) head (ids_asked b.state) (size_at r.sdh)))
-    (track_formatted (track_named bay head r) (min (sector_count r) 64) (size_at r.sdh) (mode_at r.sdh))
+    ((b.drives at.bay).cylinder == cylinder_of r && is_ok (format_answer (b.drives at.bay) at.head (ids_asked b.state) (size_at r.sdh)))
+    (track_formatted (track_named at r) (min (sector_count r) 64) (size_at r.sdh) (mode_at r.sdh))
     nothing
 
--- what a turn does to the track under a head of the drive in a bay
-abbrev pub turn_event_on : Phase → Bay → ℕ → ControllerModel → Event
-turn_event_on Rest bay head b = nothing
-turn_event_on (Busy Test) bay head b = nothing
-turn_event_on (Busy (Restore k)) bay head b = nothing
-turn_event_on (Busy Seek) bay head b = nothing
-turn_event_on (Busy (Read j)) bay head b = nothing
-turn_event_on (Busy (Write j)) bay head b = write_event j bay head b
-turn_event_on (Busy Format) bay head b = format_event bay head b
-turn_event_on (Offering m at) bay head b = nothing
-turn_event_on (Taking l at) bay head b = nothing
+-- what a turn does to the selected track of a drive
+abbrev pub turn_event_on : Phase → Selection → ControllerModel → Event
+turn_event_on Rest at b = nothing
+turn_event_on (Busy Test) at b = nothing
+turn_event_on (Busy (Restore k)) at b = nothing
+turn_event_on (Busy Seek) at b = nothing
+turn_event_on (Busy (Read j)) at b = nothing
+turn_event_on (Busy (Write j)) at b = write_event j at b
+turn_event_on (Busy Format) at b = format_event at b
+turn_event_on (Offering m p) at b = nothing
+turn_event_on (Taking l p) at b = nothing
 
 -- what a turn does to the tracks of the drive that SDH selects
-abbrev pub turn_event : Option Selection → ControllerModel → Event
-turn_event (Some (Winchester head)) b = turn_event_on b.state.phase winchester head b
-turn_event (Some (Floppy head)) b = turn_event_on b.state.phase floppy head b
-turn_event None b = nothing
+abbrev pub turn_event : Phase → Option Selection → ControllerModel → Event
+turn_event p (Some at) b = turn_event_on p at b
+turn_event p None b = nothing
 
 -- what a call does to the disks: only a turn does anything
 unfoldable pub event_of : ControllerModel → Call → Event
 event_of b (call.Read n) = nothing
 event_of b (call.Write n byte) = nothing
-event_of b call.Turn = turn_event (selected b.state.registers.sdh) b
+event_of b call.Turn = turn_event b.state.phase (selected b.state.registers.sdh) b
 event_of b call.Reset = nothing

@@ -3,30 +3,27 @@ use Rattle.std.specs.Prelude.{◌≡◌, ℕ, zero, suc, true, false, cond, List
 use Rattle.sector.specs.declared.size.SizeCode.TheVariants.{Bytes128}
 use Rattle.sector.specs.Bits.{marked}
 use Rattle.check_code.specs.declared.mode.CheckMode.TheVariants.{Ecc}
-use Rattle.drive.specs.Model.{Showing, no_id, wrong_bits, DriveModel}
+use Rattle.drive.specs.Model.{Showing, no_id, wrong_bits}
+use Rattle.task_file.specs.declared.bay.Bay.TheVariants.{Winchester1}
 use Rattle.task_file.specs.declared.command.Command.TheVariants.{Read}
 use Rattle.task_file.specs.declared.command.ReadMode.{ReadMode}
-use Rattle.controller.specs.Model.{ControllerModel}
-use Rattle.histories.specs.declared.call.Call.{Call}
-use Rattle.histories.specs.declared.call.Call.TheVariants as call
-use Rattle.histories.specs.Runs.{byte_read, answer_to, called, runs, answers, at}
-use Rattle.histories.specs.Examples.{example_drive, undamaged}
-use Rattle.round_trip.specs.Events.{busy, error, accepts, drq_comes_on, busy_comes_on, winchester, SectorName}
+use Rattle.controller.specs.Model.{ControllerModel, made}
+use Rattle.controller.specs.declared.call.Call.{Call}
+use Rattle.controller.specs.declared.call.Call.TheVariants as call
+use Rattle.controller.specs.Runs.{byte_read, answer_to, called, runs, answers, IsNew}
+use Rattle.histories.specs.Examples.{example_drive, in_winchester_1}
+use Rattle.round_trip.specs.Events.{busy, error, accepts, drq_comes_on, busy_comes_on, SectorName}
 use Rattle.round_trip.specs.Ledger.{Writing, notes_of}
-use Rattle.round_trip.specs.Laws.{PlainRead, StandsUnmarked, Readable, used_bits, outlook_at, BusyThroughout, DrqThroughout, drawn_in, ADrive}
+use Rattle.round_trip.specs.Laws.{PlainRead, StandsUnmarked, Readable, used_bits, outlook_at, BusyThroughout, DrqThroughout, drawn_in}
 
 -- ---- the drives
 -- what the attempts at each place show: a burst of three wrong bits, then no ID, and from there on that burst again
 abbrev pub shows : ℕ → Showing
 shows k = cond (k == 1) no_id (wrong_bits (marked 1 0b1_0011))
 
--- a Winchester without sectors, with room for 8,192 bytes on a track
-abbrev pub disk : DriveModel
-disk = example_drive 8192 0 [] shows
-
--- an undamaged drive beside it
-abbrev pub beside : DriveModel
-beside = example_drive 0 0 [] undamaged
+-- a Winchester without sectors, with room for 8,192 bytes on a track, and undamaged drives beside it
+abbrev pub new : ControllerModel
+new = made (in_winchester_1 (example_drive 8192 0 [] shows))
 
 -- ---- the sheet and its sector
 -- the numbers below n, from the largest down
@@ -40,7 +37,7 @@ sheet = counted_down 128
 
 -- the sector with number 5 and 128 bytes at cylinder 1, head 0
 abbrev pub place : SectorName
-place = record { track = record { bay = winchester; cylinder = 1; head = 0 }; number = 5; size = Bytes128 }
+place = record { track = record { bay = Winchester1; cylinder = 1; head = 0 }; number = 5; size = Bytes128 }
 
 -- what is written there, by a plain write under ECC
 abbrev pub writing : Writing
@@ -75,7 +72,7 @@ drawing = replicate 127 (call.Read 0)
 
 -- ---- where they lead
 abbrev pub started : ControllerModel
-started = at disk beside (before ++ (reading ∷ []))
+started = runs new (before ++ (reading ∷ []))
 
 -- the turn that raises DRQ is made
 abbrev pub offered : ControllerModel
@@ -83,21 +80,20 @@ offered = called (runs started waiting) call.Turn
 
 -- The premises of the laws, at these drives and calls.
 pub record PremisesMet : Type 0 where
-  -- of the theorem: both are drives
-  pub disk_is : ADrive disk
-  pub beside_is : ADrive beside
+  -- of the theorem: the controller is new
+  pub is_new : IsNew new
   -- of same bytes: BUSY comes on for a plain read of the sector, of which the sheet is the last writing, and stays on until a
   -- turn raises DRQ; DRQ stays on until the last byte is to be drawn, with Error off
-  pub busy_on : busy_comes_on (at disk beside before) reading ≡ true
-  pub plain_read : PlainRead started (notes_of disk beside (before ++ (reading ∷ []))) mode place writing
+  pub busy_on : busy_comes_on (runs new before) reading ≡ true
+  pub plain_read : PlainRead started (notes_of new (before ++ (reading ∷ []))) mode place writing
   pub waits : BusyThroughout started waiting
   pub raises : drq_comes_on (runs started waiting) call.Turn ≡ true
   pub asks : DrqThroughout offered drawing
   pub no_error : error (runs offered drawing) ≡ false
   -- of every request: the read is in force at that turn
-  pub in_force : (notes_of disk beside (before ++ (reading ∷ waiting ++ (call.Turn ∷ [])))).in_force ≡ Some (Read mode)
+  pub in_force : (notes_of new (before ++ (reading ∷ waiting ++ (call.Turn ∷ [])))).in_force ≡ Some (Read mode)
   -- of clean exactly when: the Read is accepted and not aborted, and is of one sector
-  pub accepted : accepts (at disk beside before) reading ≡ true
+  pub accepted : accepts (runs new before) reading ≡ true
   pub not_aborted : busy started ≡ true
   pub single : mode.multiple ≡ false
   -- the sector stands unmarked on its track, and is readable by two neighbours that show the same burst

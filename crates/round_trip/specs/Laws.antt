@@ -7,18 +7,16 @@ use Rattle.check_code.specs.declared.mode.CheckMode.TheVariants.{Crc, Ecc}
 use Rattle.check_code.specs.Code.{width}
 use Rattle.check_code.specs.Mode.{code_of}
 use Rattle.burst.specs.Mending.{AtMostOneBurst}
-use Rattle.drive.specs.Model.{Sector, no_sector, slot_of, Showing, no_id, no_data_mark, wrong_bits, DriveModel}
-use Rattle.drive.specs.Bounds.{Bounded}
-use Rattle.task_file.specs.declared.registers.Selection.{Selection}
-use Rattle.task_file.specs.declared.registers.Selection.TheVariants.{Winchester, Floppy}
+use Rattle.drive.specs.Model.{Sector, no_sector, slot_of, Showing, no_id, no_data_mark, wrong_bits}
+use Rattle.task_file.specs.declared.bay.Selection.{Selection}
 use Rattle.task_file.specs.declared.command.Command.TheVariants.{Read}
 use Rattle.task_file.specs.declared.command.ReadMode.{ReadMode}
 use Rattle.task_file.specs.Registers.{mode_at, selected}
 use Rattle.controller.specs.Model.{ControllerModel}
-use Rattle.histories.specs.declared.call.Call.{Call}
-use Rattle.histories.specs.declared.call.Call.TheVariants as call
-use Rattle.histories.specs.Runs.{Answer, byte_read, answer_to, called, runs, answers, at}
-use Rattle.round_trip.specs.Events.{busy, drq, error, accepts, drq_comes_on, busy_comes_on, winchester, floppy, drive_in, TrackName, SectorName, same_track, sector_named, Event, nothing, sector_written, track_formatted, event_of}
+use Rattle.controller.specs.declared.call.Call.{Call}
+use Rattle.controller.specs.declared.call.Call.TheVariants as call
+use Rattle.controller.specs.Runs.{Answer, byte_read, answer_to, called, runs, answers, IsNew}
+use Rattle.round_trip.specs.Events.{busy, drq, error, accepts, drq_comes_on, busy_comes_on, TrackName, SectorName, same_track, sector_named, Event, nothing, sector_written, track_formatted, event_of}
 use Rattle.round_trip.specs.Ledger.{Writing, Notes, notes_of}
 
 -- ---- what attempts show
@@ -48,13 +46,12 @@ SameBurst bits (wrong_bits w) (wrong_bits u) = OneBurst w bits × ((i : ℕ) →
 
 -- what the attempts to come at a sector's place show
 abbrev pub outlook_at : ControllerModel → SectorName → ℕ → Showing
-outlook_at b name = (drive_in name.track.bay b).outlook name.track.cylinder name.track.head name.number
+outlook_at b name = (b.drives name.track.bay).outlook name.track.cylinder name.track.head name.number
 
 -- ---- a read
 -- the sector that the registers name on the selected drive
 abbrev pub named_by : Option Selection → ControllerModel → Option SectorName
-named_by (Some (Winchester head)) b = Some (sector_named winchester head b.state.registers)
-named_by (Some (Floppy head)) b = Some (sector_named floppy head b.state.registers)
+named_by (Some at) b = Some (sector_named at b.state.registers)
 named_by None b = None
 
 -- the sector that the registers name now, if SDH selects a drive
@@ -75,7 +72,7 @@ pub record PlainRead (b : ControllerModel) (n : Notes) (m : ReadMode) (name : Se
 -- the sector stands on its track, and has no bad mark
 abbrev pub StandsUnmarked : ControllerModel → SectorName → Type 0
 StandsUnmarked b name =
-    let track = (drive_in name.track.bay b).track name.track.cylinder name.track.head in
+    let track = (b.drives name.track.bay).track name.track.cylinder name.track.head in
     (k : ℕ) × ((slot_of track name.number name.size ≡ Some k) × ((get_or track k no_sector).bad ≡ false))
 
 -- under ECC two neighbours of the nine show the same burst
@@ -132,17 +129,17 @@ NoReset (call.Write n byte ∷ cs) = NoReset cs
 NoReset (call.Turn ∷ cs) = NoReset cs
 NoReset (call.Reset ∷ cs) = ⊥
 
--- ---- the laws, each of a history from the making over two drives
+-- ---- the laws, each of a history from a new controller on
 -- Same bytes. BUSY comes on for a sector of a plain read and stays on until a turn raises DRQ. With Error off, a data read
 -- that comes after i others since then answers byte i of the sector's last writing, and DRQ stays on unless it was the last.
-abbrev pub SameBytes : DriveModel → DriveModel → List Call → Type 0
-SameBytes w f history =
+abbrev pub SameBytes : ControllerModel → List Call → Type 0
+SameBytes new history =
     (before : List Call) (c : Call) (waiting drawing rest : List Call) (m : ReadMode) (name : SectorName) (x : Writing)
-    → let b = at w f (before ++ (c ∷ [])) in
+    → let b = runs new (before ++ (c ∷ [])) in
     let offered = called (runs b waiting) call.Turn in
     history ≡ before ++ (c ∷ waiting ++ (call.Turn ∷ drawing ++ (call.Read 0 ∷ rest)))
-    → busy_comes_on (at w f before) c ≡ true
-    → PlainRead b (notes_of w f (before ++ (c ∷ []))) m name x
+    → busy_comes_on (runs new before) c ≡ true
+    → PlainRead b (notes_of new (before ++ (c ∷ []))) m name x
     → BusyThroughout b waiting
     → drq_comes_on (runs b waiting) call.Turn ≡ true
     → DrqThroughout offered drawing
@@ -152,35 +149,35 @@ SameBytes w f history =
     × (drawn_in offered drawing + 1 < length x.bytes → drq (called (runs offered drawing) (call.Read 0)) ≡ true)
 
 -- BUSY came on under a read, and is on since: some calls, the one that turned it on, and the calls from there to now.
-pub record BusySince (w f : DriveModel) (history : List Call) (m : ReadMode) : Type 0 where
+pub record BusySince (new : ControllerModel) (history : List Call) (m : ReadMode) : Type 0 where
   pub before : List Call
   pub first : Call
   pub waiting : List Call
   pub split : history ≡ before ++ (first ∷ waiting)
-  pub comes_on : busy_comes_on (at w f before) first ≡ true
-  pub in_force : (notes_of w f (before ++ (first ∷ []))).in_force ≡ Some (Read m)
-  pub on : BusyThroughout (at w f (before ++ (first ∷ []))) waiting
+  pub comes_on : busy_comes_on (runs new before) first ≡ true
+  pub in_force : (notes_of new (before ++ (first ∷ []))).in_force ≡ Some (Read m)
+  pub on : BusyThroughout (runs new (before ++ (first ∷ []))) waiting
 
 -- Each DRQ of a read comes so: BUSY came on for it under the same command, and stayed on until a turn raised DRQ.
-abbrev pub EveryRequest : DriveModel → DriveModel → List Call → Type 0
-EveryRequest w f history =
+abbrev pub EveryRequest : ControllerModel → List Call → Type 0
+EveryRequest new history =
     (before : List Call) (c : Call) (rest : List Call) (m : ReadMode)
     → history ≡ before ++ (c ∷ rest)
-    → drq_comes_on (at w f before) c ≡ true
-    → (notes_of w f (before ++ (c ∷ []))).in_force ≡ Some (Read m)
-    → (c ≡ call.Turn) × BusySince w f before m
+    → drq_comes_on (runs new before) c ≡ true
+    → (notes_of new (before ++ (c ∷ []))).in_force ≡ Some (Read m)
+    → (c ≡ call.Turn) × BusySince new before m
 
 -- Clean exactly when it can be. Of a plain single-sector read that is accepted and not aborted: where a turn raises DRQ, with
 -- BUSY on until then, Error is off exactly when the sector stands unmarked and is readable; and one of the first 1,032 turns
 -- does, unless a reset comes first.
-abbrev pub CleanExactlyWhen : DriveModel → DriveModel → List Call → Type 0
-CleanExactlyWhen w f history =
+abbrev pub CleanExactlyWhen : ControllerModel → List Call → Type 0
+CleanExactlyWhen new history =
     (before : List Call) (byte : ℕ) (after : List Call) (m : ReadMode) (name : SectorName) (x : Writing)
-    → let b = at w f (before ++ (call.Write 7 byte ∷ [])) in
+    → let b = runs new (before ++ (call.Write 7 byte ∷ [])) in
     history ≡ before ++ (call.Write 7 byte ∷ after)
-    → accepts (at w f before) (call.Write 7 byte) ≡ true
+    → accepts (runs new before) (call.Write 7 byte) ≡ true
     → busy b ≡ true
-    → PlainRead b (notes_of w f (before ++ (call.Write 7 byte ∷ []))) m name x
+    → PlainRead b (notes_of new (before ++ (call.Write 7 byte ∷ []))) m name x
     → m.multiple ≡ false
     → ((waiting rest : List Call) → after ≡ waiting ++ (call.Turn ∷ rest) → BusyThroughout b waiting → drq_comes_on (runs b waiting) call.Turn ≡ true
     → (error (called (runs b waiting) call.Turn) ≡ false → StandsUnmarked b name × Readable x.mode (used_bits x.mode name) (outlook_at b name))
@@ -189,9 +186,9 @@ CleanExactlyWhen w f history =
     → (waiting : List Call) × ((rest : List Call) × ((after ≡ waiting ++ (call.Turn ∷ rest)) × (turn_count waiting < 1032) × BusyThroughout b waiting
     × (NoReset waiting → drq_comes_on (runs b waiting) call.Turn ≡ true))))
 
--- a track of one of the drives
+-- a track of the drive in a bay
 abbrev pub track_of : ControllerModel → TrackName → List Sector
-track_of b t = (drive_in t.bay b).track t.cylinder t.head
+track_of b t = (b.drives t.bay).track t.cylinder t.head
 
 -- what an event leaves alone: every other track, and of the track of a written sector every other sector
 abbrev pub LeftAlone : Event → ControllerModel → ControllerModel → Type 0
@@ -203,38 +200,33 @@ LeftAlone (sector_written name mode plain) b e =
 LeftAlone (track_formatted name count size mode) b e = (t : TrackName) → same_track name t ≡ false → track_of e t ≡ track_of b t
 
 -- Nothing else moves: a call leaves every sector alone but the one being written or those of the track being formatted.
-abbrev pub NothingElseMoves : DriveModel → DriveModel → List Call → Type 0
-NothingElseMoves w f history =
+abbrev pub NothingElseMoves : ControllerModel → List Call → Type 0
+NothingElseMoves new history =
     (before : List Call) (c : Call) (rest : List Call) → history ≡ before ++ (c ∷ rest)
-    → LeftAlone (event_of (at w f before) c) (at w f before) (called (at w f before) c)
+    → LeftAlone (event_of (runs new before) c) (runs new before) (called (runs new before) c)
 
 -- BUSY goes off by the 1,032nd turn.
-abbrev pub BusyEnds : DriveModel → DriveModel → List Call → Type 0
-BusyEnds w f history =
+abbrev pub BusyEnds : ControllerModel → List Call → Type 0
+BusyEnds new history =
     (before after : List Call) → history ≡ before ++ after → 1032 ≤ turn_count after
-    → (waiting : List Call) × ((rest : List Call) × ((after ≡ waiting ++ rest) × (turn_count waiting ≤ 1032) × (busy (runs (at w f before) waiting) ≡ false)))
+    → (waiting : List Call) × ((rest : List Call) × ((after ≡ waiting ++ rest) × (turn_count waiting ≤ 1032) × (busy (runs (runs new before) waiting) ≡ false)))
 
--- The theorem, whole, of a history from the making over two drives.
-pub record RoundTrip (w f : DriveModel) (history : List Call) : Type 0 where
-  pub same_bytes : SameBytes w f history
-  pub every_request : EveryRequest w f history
-  pub clean_exactly_when : CleanExactlyWhen w f history
-  pub nothing_else_moves : NothingElseMoves w f history
-  pub busy_ends : BusyEnds w f history
-
--- A drive with the meaning of a drive: 1 to 1,024 cylinders and 1 to 8 heads, its head on one of the cylinders, on each
--- track at most 64 sectors, each of them whole, and no sector elsewhere.
-abbrev pub ADrive : DriveModel → Type 0
-ADrive d = Bounded (record { cylinders = 1024; heads = 8 }) d
+-- The theorem, whole, of a history from a new controller on.
+pub record RoundTrip (new : ControllerModel) (history : List Call) : Type 0 where
+  pub same_bytes : SameBytes new history
+  pub every_request : EveryRequest new history
+  pub clean_exactly_when : CleanExactlyWhen new history
+  pub nothing_else_moves : NothingElseMoves new history
+  pub busy_ends : BusyEnds new history
 
 -- ---- what is promised of every history
--- The theorem holds of all drives and all histories.
+-- The theorem holds of all new controllers, over whatever drives, and all histories.
 unfoldable pub ScriptIsSheet : Type 0
-ScriptIsSheet = (w f : DriveModel) → ADrive w → ADrive f → (history : List Call) → RoundTrip w f history
+ScriptIsSheet = (new : ControllerModel) → IsNew new → (history : List Call) → RoundTrip new history
 
--- What a run tells: for every pair of drives and every history that led from their making to the controller as it came in,
--- that history continued by these calls leads to the controller as it is now, each answer is its call's, and the laws hold of it.
+-- What a run tells: every history that led from a new controller to the controller as it came in, continued by these
+-- calls, leads to the controller as it is now, each answer is its call's, and the laws hold of it.
 unfoldable pub Tells : ControllerModel → List Call → List Answer → ControllerModel → Type 0
-Tells old calls given new =
-    (w f : DriveModel) → ADrive w → ADrive f → (history : List Call) → at w f history ≡ old
-    → (at w f (history ++ calls) ≡ new) × (given ≡ answers (at w f history) calls) × RoundTrip w f (history ++ calls)
+Tells old calls given now =
+    (new : ControllerModel) → IsNew new → (history : List Call) → runs new history ≡ old
+    → (runs new (history ++ calls) ≡ now) × (given ≡ answers (runs new history) calls) × RoundTrip new (history ++ calls)

@@ -1,17 +1,16 @@
--- The last writing of each sector: what follows from the drives at the making, the calls and their arguments alone.
+-- The last writing of each sector: what follows from the drives of a new controller, the calls and their arguments alone.
 use Rattle.std.specs.Prelude.{ℕ, Bool, true, cond, ◌&&◌, List, [], ◌∷◌, ◌++◌, replicate, is_some, Some, None, Option, ◌==◌, nat_eq}
 use Rattle.sector.specs.Sizes.{bytes_of}
 use Rattle.check_code.specs.declared.mode.CheckMode.{CheckMode}
 use Rattle.drive.specs.declared.answers.SectorId.{SectorId}
-use Rattle.drive.specs.Model.{DriveModel}
 use Rattle.drive.specs.Search.{first_match}
 use Rattle.task_file.specs.declared.command.Command.{Command}
 use Rattle.task_file.specs.Commands.{command_of}
 use Rattle.task_file.specs.Attempts.{ids_of}
-use Rattle.controller.specs.Model.{ControllerModel, made}
-use Rattle.histories.specs.declared.call.Call.{Call}
-use Rattle.histories.specs.declared.call.Call.TheVariants as call
-use Rattle.histories.specs.Runs.{answer_to, called}
+use Rattle.controller.specs.Model.{ControllerModel}
+use Rattle.controller.specs.declared.call.Call.{Call}
+use Rattle.controller.specs.declared.call.Call.TheVariants as call
+use Rattle.controller.specs.Runs.{answer_to, called}
 use Rattle.round_trip.specs.Events.{is_done, accepts, drq_comes_on, SectorName, same_track, same_size, same_sector, Event, nothing, sector_written, track_formatted, event_of}
 
 -- a last writing: the bytes, the check mode, and whether plain (a long one has the host's check bytes among its bytes)
@@ -82,6 +81,6 @@ unfoldable pub notes_from : ControllerModel → Notes → List Call → Notes
 notes_from b n [] = n
 notes_from b n (c ∷ cs) = notes_from (called b c) (noted b c n) cs
 
--- the notes of a history, from the making over two drives
-abbrev pub notes_of : DriveModel → DriveModel → List Call → Notes
-notes_of w f history = notes_from (made w f) no_notes history
+-- the notes of a history, from a new controller on
+abbrev pub notes_of : ControllerModel → List Call → Notes
+notes_of new history = notes_from new no_notes history

@@ -1,34 +1,56 @@
 //! A list of calls on a controller whose whole history is under the theorem.
 ghost use Rattle.std.specs.Prelude.{◌≡◌, MatchResult};
-ghost use Rattle.controller.specs.Model.{model_of};
-ghost use Rattle.histories.specs.Runs.{answers, runs};
-ghost use Rattle.round_trip.specs.Laws.{Tells};
+ghost use Rattle.controller.specs.Model.{drives_of, made};
+ghost use Rattle.controller.specs.Controller.{model_of};
+ghost use Rattle.controller.specs.Runs.{answers, runs};
+ghost use Rattle.round_trip.specs.Laws.{RoundTrip, Tells};
 
-use controller::Controller;
+use controller::{Answer, Call, Controller};
 use drive::Drive;
-use histories::{Answer, Call};
 use std::alloc::{AllocError, Global};
+use task_file::BAYS;
 
 /// Makes the calls, and hands back every answer. Where memory is wanting for the answers, no call
 /// is made.
 #[tactic(auto, using(crate::proofs::Laws::tells))]
-pub fn run<W: Drive, F: Drive>(
-    controller: &mut Controller<W, F>,
+pub fn run<D: Drive>(
+    controller: &mut Controller<D>,
     heap: Global,
     calls: &[Call],
 ) -> Result<Vec<Answer>, AllocError>
     ensures answers { MatchResult result
-        (λ v. v.items ≡ answers (model_of W.meaning F.meaning controller.old) calls.now)
+        (λ v. v.items ≡ answers (model_of D.meaning controller.old) calls.now)
         (λ _. controller.new ≡ controller.old) }
     ensures after { MatchResult result
-        (λ _. model_of W.meaning F.meaning controller.new
-        ≡ runs (model_of W.meaning F.meaning controller.old) calls.now)
+        (λ _. model_of D.meaning controller.new
+        ≡ runs (model_of D.meaning controller.old) calls.now)
         (λ _. controller.new ≡ controller.old) }
     ensures laws { MatchResult result
-        (λ v. Tells (model_of W.meaning F.meaning controller.old) calls.now v.items
-        (model_of W.meaning F.meaning controller.new))
+        (λ v. Tells (model_of D.meaning controller.old) calls.now v.items
+        (model_of D.meaning controller.new))
         (λ _. controller.new ≡ controller.old) }
 {
     let answers = histories::run(controller, heap, calls)?;
     Ok(answers)
+}
+
+/// Makes a controller over these drives, in the order of their bays, and makes the calls; hands
+/// back the controller, and every answer. Where memory is wanting for the answers, no call is
+/// made.
+pub fn run_anew<D: Drive>(
+    drives: [D; BAYS],
+    heap: Global,
+    calls: &[Call],
+) -> (Controller<D>, Result<Vec<Answer>, AllocError>)
+    ensures answers { MatchResult result.1
+        (λ v. v.items ≡ answers (made (drives_of D.meaning drives)) calls.now)
+        (λ _. model_of D.meaning result.0 ≡ made (drives_of D.meaning drives)) }
+    ensures after { MatchResult result.1
+        (λ _. model_of D.meaning result.0 ≡ runs (made (drives_of D.meaning drives)) calls.now)
+        (λ _. model_of D.meaning result.0 ≡ made (drives_of D.meaning drives)) }
+    ensures laws { RoundTrip (made (drives_of D.meaning drives)) calls.now }
+{
+    let mut controller = Controller::new(drives);
+    let answers = run(&mut controller, heap, calls);
+    (controller, answers)
 }

@@ -1,10 +1,11 @@
 //! The theorem, what it stands on, and an example of it, as contracts of functions.
+ghost use Rattle.drive.specs.Bounds.{ADrive};
 ghost use Rattle.round_trip.specs.Examples.{PremisesMet, SheetReadBack};
-ghost use Rattle.round_trip.specs.Laws.{ADrive, ScriptIsSheet};
+ghost use Rattle.round_trip.specs.Laws.{ScriptIsSheet};
 
 use drive::Drive;
 
-/// The laws hold of every history over every two drives.
+/// The laws hold of every history, over all drives.
 #[tactic(auto, using(crate::proofs::Laws::round_trip))]
 pub fn round_trip_stands()
     ensures { ScriptIsSheet }

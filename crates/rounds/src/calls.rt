@@ -1,6 +1,7 @@
 //! Single calls on a controller, and the sum of their answers.
 ghost use Rattle.std.specs.Prelude.{◌≡◌};
-ghost use Rattle.controller.specs.Model.{model_of, read_answered, after_register_read, write_answered, after_register_write};
+ghost use Rattle.controller.specs.Controller.{model_of};
+ghost use Rattle.controller.specs.Model.{read_answered, after_register_read, write_answered, after_register_write};
 ghost use Rattle.rounds.specs.Rounds.{heard, with_number, number_read, number_written, drawn, given, turned, read, write};
 
 use controller::{Controller, Refusal};
@@ -9,24 +10,21 @@ use task_file::Register;
 
 // A register read as a bus makes it, by a call of its own.
 #[inline(never)]
-fn access_read<W: Drive, F: Drive>(
-    controller: &mut Controller<W, F>,
-    number: u8,
-) -> Result<u8, Refusal>
-    ensures answer { result ≡ read_answered (model_of W.meaning F.meaning controller.old) number }
-    ensures after { model_of W.meaning F.meaning controller.new
-        ≡ after_register_read (model_of W.meaning F.meaning controller.old) number }
+fn access_read<D: Drive>(controller: &mut Controller<D>, number: u8) -> Result<u8, Refusal>
+    ensures answer { result ≡ read_answered (model_of D.meaning controller.old) number }
+    ensures after { model_of D.meaning controller.new
+        ≡ after_register_read (model_of D.meaning controller.old) number }
 {
     controller.read_register(number)
 }
 
 // A register write, likewise: 0 where it is done, or the number of the refusal.
 #[inline(never)]
-fn access_write<W: Drive, F: Drive>(controller: &mut Controller<W, F>, number: u8, byte: u8) -> u8
+fn access_write<D: Drive>(controller: &mut Controller<D>, number: u8, byte: u8) -> u8
     ensures answer { result ≡ number_written
-        (write_answered (model_of W.meaning F.meaning controller.old) number byte) }
-    ensures after { model_of W.meaning F.meaning controller.new
-        ≡ after_register_write (model_of W.meaning F.meaning controller.old) number byte }
+        (write_answered (model_of D.meaning controller.old) number byte) }
+    ensures after { model_of D.meaning controller.new
+        ≡ after_register_write (model_of D.meaning controller.old) number byte }
 {
     match controller.write_register(number, byte) {
         Ok(()) => 0,
@@ -52,30 +50,25 @@ fn number_read(answer: Result<u8, Refusal>) -> u8
 }
 
 /// A register read, and the sum with its answer.
-pub fn read<W: Drive, F: Drive>(controller: &mut Controller<W, F>, number: u8, sum: u32) -> u32
-    ensures { heard (model_of W.meaning F.meaning controller.new) result
-        ≡ read number (heard (model_of W.meaning F.meaning controller.old) sum) }
+pub fn read<D: Drive>(controller: &mut Controller<D>, number: u8, sum: u32) -> u32
+    ensures { heard (model_of D.meaning controller.new) result
+        ≡ read number (heard (model_of D.meaning controller.old) sum) }
 {
     with_number(sum, number_read(access_read(controller, number)))
 }
 
 /// A register write, and the sum with its answer.
-pub fn write<W: Drive, F: Drive>(
-    controller: &mut Controller<W, F>,
-    number: u8,
-    byte: u8,
-    sum: u32,
-) -> u32
-    ensures { heard (model_of W.meaning F.meaning controller.new) result
-        ≡ write number byte (heard (model_of W.meaning F.meaning controller.old) sum) }
+pub fn write<D: Drive>(controller: &mut Controller<D>, number: u8, byte: u8, sum: u32) -> u32
+    ensures { heard (model_of D.meaning controller.new) result
+        ≡ write number byte (heard (model_of D.meaning controller.old) sum) }
 {
     with_number(sum, access_write(controller, number, byte))
 }
 
 /// So many reads of the data register.
-pub fn draw<W: Drive, F: Drive>(controller: &mut Controller<W, F>, count: u32, start: u32) -> u32
-    ensures { heard (model_of W.meaning F.meaning controller.new) result
-        ≡ drawn count (heard (model_of W.meaning F.meaning controller.old) start) }
+pub fn draw<D: Drive>(controller: &mut Controller<D>, count: u32, start: u32) -> u32
+    ensures { heard (model_of D.meaning controller.new) result
+        ≡ drawn count (heard (model_of D.meaning controller.old) start) }
 {
     let mut sum = start;
     for _at in 0..count {
@@ -85,14 +78,9 @@ pub fn draw<W: Drive, F: Drive>(controller: &mut Controller<W, F>, count: u32, s
 }
 
 /// So many writes to the data register.
-pub fn give<W: Drive, F: Drive>(
-    controller: &mut Controller<W, F>,
-    number: u8,
-    count: u32,
-    start: u32,
-) -> u32
-    ensures { heard (model_of W.meaning F.meaning controller.new) result
-        ≡ given number count (heard (model_of W.meaning F.meaning controller.old) start) }
+pub fn give<D: Drive>(controller: &mut Controller<D>, number: u8, count: u32, start: u32) -> u32
+    ensures { heard (model_of D.meaning controller.new) result
+        ≡ given number count (heard (model_of D.meaning controller.old) start) }
 {
     let mut sum = start;
     for at in 0..count {
@@ -103,9 +91,9 @@ pub fn give<W: Drive, F: Drive>(
 }
 
 /// So many turns, of which nothing is heard.
-pub fn take_turns<W: Drive, F: Drive>(controller: &mut Controller<W, F>, count: u8, sum: u32)
-    ensures { heard (model_of W.meaning F.meaning controller.new) sum
-        ≡ turned count (heard (model_of W.meaning F.meaning controller.old) sum) }
+pub fn take_turns<D: Drive>(controller: &mut Controller<D>, count: u8, sum: u32)
+    ensures { heard (model_of D.meaning controller.new) sum
+        ≡ turned count (heard (model_of D.meaning controller.old) sum) }
 {
     for _turn in 0..count {
         controller.turn();

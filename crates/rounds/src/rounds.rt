@@ -1,6 +1,6 @@
 //! Rounds of a host at a controller.
 ghost use Rattle.std.specs.Prelude.{◌≡◌, ◌%◌};
-ghost use Rattle.controller.specs.Model.{model_of};
+ghost use Rattle.controller.specs.Controller.{model_of};
 ghost use Rattle.rounds.specs.Rounds.{heard, sector_read, sector_written, refused, ready, reads, writes, refusals, both_refusals};
 
 use super::calls::{draw, give, read, take_turns, write};
@@ -23,14 +23,9 @@ const NO_REGISTER: u8 = 8;
 const NO_COMMAND: u8 = 0xff;
 
 // Reads a sector by its number, with so many turns.
-fn read_sector<W: Drive, F: Drive>(
-    controller: &mut Controller<W, F>,
-    turns: u8,
-    number: u8,
-    start: u32,
-) -> u32
-    ensures { heard (model_of W.meaning F.meaning controller.new) result
-        ≡ sector_read turns number (heard (model_of W.meaning F.meaning controller.old) start) }
+fn read_sector<D: Drive>(controller: &mut Controller<D>, turns: u8, number: u8, start: u32) -> u32
+    ensures { heard (model_of D.meaning controller.new) result
+        ≡ sector_read turns number (heard (model_of D.meaning controller.old) start) }
 {
     let named = write(controller, u8::from(Register::Number), number, start);
     let begun = write(controller, u8::from(Register::Status), READ, named);
@@ -40,13 +35,9 @@ fn read_sector<W: Drive, F: Drive>(
 }
 
 // Writes a sector by its number, with one turn.
-fn write_sector<W: Drive, F: Drive>(
-    controller: &mut Controller<W, F>,
-    number: u8,
-    start: u32,
-) -> u32
-    ensures { heard (model_of W.meaning F.meaning controller.new) result
-        ≡ sector_written number (heard (model_of W.meaning F.meaning controller.old) start) }
+fn write_sector<D: Drive>(controller: &mut Controller<D>, number: u8, start: u32) -> u32
+    ensures { heard (model_of D.meaning controller.new) result
+        ≡ sector_written number (heard (model_of D.meaning controller.old) start) }
 {
     let named = write(controller, u8::from(Register::Number), number, start);
     let begun = write(controller, u8::from(Register::Status), WRITE, named);
@@ -56,9 +47,9 @@ fn write_sector<W: Drive, F: Drive>(
 }
 
 // Five accesses that are refused while BUSY is on or bytes are offered.
-fn refuse<W: Drive, F: Drive>(controller: &mut Controller<W, F>, start: u32) -> u32
-    ensures { heard (model_of W.meaning F.meaning controller.new) result
-        ≡ refused (heard (model_of W.meaning F.meaning controller.old) start) }
+fn refuse<D: Drive>(controller: &mut Controller<D>, start: u32) -> u32
+    ensures { heard (model_of D.meaning controller.new) result
+        ≡ refused (heard (model_of D.meaning controller.old) start) }
 {
     let mut sum = read(controller, NO_REGISTER, start);
     sum = write(controller, NO_REGISTER, 1, sum);
@@ -68,9 +59,9 @@ fn refuse<W: Drive, F: Drive>(controller: &mut Controller<W, F>, start: u32) -> 
 }
 
 // Ends the first Test, and sets SDH.
-fn make_ready<W: Drive, F: Drive>(controller: &mut Controller<W, F>, start: u32) -> u32
-    ensures { heard (model_of W.meaning F.meaning controller.new) result
-        ≡ ready (heard (model_of W.meaning F.meaning controller.old) start) }
+fn make_ready<D: Drive>(controller: &mut Controller<D>, start: u32) -> u32
+    ensures { heard (model_of D.meaning controller.new) result
+        ≡ ready (heard (model_of D.meaning controller.old) start) }
 {
     controller.turn();
     write(controller, u8::from(Register::Sdh), SDH, start)
@@ -78,9 +69,9 @@ fn make_ready<W: Drive, F: Drive>(controller: &mut Controller<W, F>, start: u32)
 
 /// Reads the sectors 0 to 7 in turn, so many in all, each with so many turns.
 #[tactic(auto, using(crate::proofs::Repeated::more), unfolding(crate::specs::Rounds::reads))]
-pub fn reads<W: Drive, F: Drive>(controller: &mut Controller<W, F>, turns: u8, rounds: u32) -> u32
-    ensures { heard (model_of W.meaning F.meaning controller.new) result
-        ≡ reads turns rounds (heard (model_of W.meaning F.meaning controller.old) 0) }
+pub fn reads<D: Drive>(controller: &mut Controller<D>, turns: u8, rounds: u32) -> u32
+    ensures { heard (model_of D.meaning controller.new) result
+        ≡ reads turns rounds (heard (model_of D.meaning controller.old) 0) }
 {
     let mut sum = make_ready(controller, 0);
     for round in 0..rounds {
@@ -91,9 +82,9 @@ pub fn reads<W: Drive, F: Drive>(controller: &mut Controller<W, F>, turns: u8, r
 
 /// Writes the sectors 0 to 7 in turn, so many in all.
 #[tactic(auto, using(crate::proofs::Repeated::more), unfolding(crate::specs::Rounds::writes))]
-pub fn writes<W: Drive, F: Drive>(controller: &mut Controller<W, F>, rounds: u32) -> u32
-    ensures { heard (model_of W.meaning F.meaning controller.new) result
-        ≡ writes rounds (heard (model_of W.meaning F.meaning controller.old) 0) }
+pub fn writes<D: Drive>(controller: &mut Controller<D>, rounds: u32) -> u32
+    ensures { heard (model_of D.meaning controller.new) result
+        ≡ writes rounds (heard (model_of D.meaning controller.old) 0) }
 {
     let mut sum = make_ready(controller, 0);
     for round in 0..rounds {
@@ -103,13 +94,9 @@ pub fn writes<W: Drive, F: Drive>(controller: &mut Controller<W, F>, rounds: u32
 }
 
 // Five refused accesses, so many times.
-fn refuse_often<W: Drive, F: Drive>(
-    controller: &mut Controller<W, F>,
-    rounds: u32,
-    start: u32,
-) -> u32
-    ensures { heard (model_of W.meaning F.meaning controller.new) result
-        ≡ refusals rounds (heard (model_of W.meaning F.meaning controller.old) start) }
+fn refuse_often<D: Drive>(controller: &mut Controller<D>, rounds: u32, start: u32) -> u32
+    ensures { heard (model_of D.meaning controller.new) result
+        ≡ refusals rounds (heard (model_of D.meaning controller.old) start) }
 {
     let mut sum = start;
     for _round in 0..rounds {
@@ -122,9 +109,9 @@ fn refuse_often<W: Drive, F: Drive>(
 /// are offered.
 #[tactic(auto, using(crate::proofs::Repeated::more), // one round more
 unfolding(crate::specs::Rounds::both_refusals))]
-pub fn refusals<W: Drive, F: Drive>(controller: &mut Controller<W, F>, rounds: u32) -> u32
-    ensures { heard (model_of W.meaning F.meaning controller.new) result
-        ≡ both_refusals rounds (heard (model_of W.meaning F.meaning controller.old) 0) }
+pub fn refusals<D: Drive>(controller: &mut Controller<D>, rounds: u32) -> u32
+    ensures { heard (model_of D.meaning controller.new) result
+        ≡ both_refusals rounds (heard (model_of D.meaning controller.old) 0) }
 {
     let busy = refuse_often(controller, rounds, 0);
     let set = make_ready(controller, busy);

@@ -1,2 +1,3 @@
+pub mod Bays
 pub mod Bits
 pub mod Ids

@@ -8,12 +8,13 @@ use Rattle.task_file.specs.declared.registers.Registers.{Registers}
 use Rattle.task_file.specs.declared.command.Command.{Command}
 use Rattle.task_file.specs.declared.command.Command.TheVariants.{Test, Restore, Seek, Read, Write, Format}
 use Rattle.task_file.specs.declared.view.DriveView.{DriveView}
+use Rattle.task_file.specs.Bays.{is_floppy}
 use Rattle.task_file.specs.Registers.{cylinder_of, size_at, mode_at, sector_count}
 use Rattle.task_file.specs.Commands.{writes, is_long}
 
 -- a drive that is not ready, or a protected Winchester
 abbrev pub is_unusable : DriveView → Bool
-is_unusable v = not v.ready || (v.protected && not v.floppy)
+is_unusable v = not v.ready || (v.protected && not (is_floppy v.at.bay))
 
 -- the code is ECC
 abbrev pub is_ecc : CheckMode → Bool
@@ -22,15 +23,15 @@ is_ecc Crc = false
 
 -- a floppy is selected, and ECC or L is 1
 abbrev pub unfit_for_floppy : Command → CheckMode → DriveView → Bool
-unfit_for_floppy c m v = v.floppy && (is_ecc m || is_long c)
+unfit_for_floppy c m v = is_floppy v.at.bay && (is_ecc m || is_long c)
 
 -- a Write or Format on a protected floppy
 abbrev pub guards : Command → DriveView → Bool
-guards c v = writes c && (v.floppy && v.protected)
+guards c v = writes c && (is_floppy v.at.bay && v.protected)
 
 -- the head, the count or the room on a track would make the drive refuse a format; a count of 0 is 256
 abbrev pub refuses_format : Registers → DriveView → Bool
-refuses_format r v = nat_le v.heads v.head || (nat_lt 64 (sector_count r) || nat_lt v.capacity (sector_count r * bytes_of (size_at r.sdh)))
+refuses_format r v = nat_le v.heads v.at.head || (nat_lt 64 (sector_count r) || nat_lt v.capacity (sector_count r * bytes_of (size_at r.sdh)))
 
 -- what of the selected drive can stand against any command but Test; the cylinder has to be below the drive's cylinders
 abbrev pub is_hindered : Command → Registers → DriveView → Bool

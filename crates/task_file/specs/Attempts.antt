@@ -18,6 +18,7 @@ use Rattle.drive.specs.declared.answers.WriteError.{WriteError}
 use Rattle.drive.specs.declared.answers.WriteError.TheVariants as write_error
 use Rattle.drive.specs.declared.answers.FormatError.{FormatError}
 use Rattle.drive.specs.Calls.{blank_buffer}
+use Rattle.task_file.specs.declared.bay.Selection.{Selection}
 use Rattle.task_file.specs.declared.registers.Registers.{Registers}
 use Rattle.task_file.specs.declared.command.ReadMode.{ReadMode}
 use Rattle.task_file.specs.declared.command.WriteMode.{WriteMode}
@@ -42,17 +43,17 @@ use Rattle.task_file.specs.State.{with_registers, with_failure, with_intrq, with
 abbrev pub attempts_with : ℕ → ℕ
 attempts_with attempts = min attempts 8 + 1
 
--- the place that the registers name, under a head
-abbrev pub place_under : Registers → ℕ → Place
-place_under r head = record { cylinder = cylinder_of r; head = head; number = r.number }
+-- the place that the registers name, under the selected head
+abbrev pub place_under : Registers → Selection → Place
+place_under r at = record { cylinder = cylinder_of r; head = at.head; number = r.number }
 
 -- the sector that they name there
-abbrev pub address_under : Registers → ℕ → SectorAddress
-address_under r head = record { head = head; number = r.number; size = size_at r.sdh }
+abbrev pub address_under : Registers → Selection → SectorAddress
+address_under r at = record { head = at.head; number = r.number; size = size_at r.sdh }
 
 -- a failure at the sector that the registers name, after so many attempts and one more
-abbrev pub sector_failure : Registers → ℕ → ℕ → SectorError → Failure
-sector_failure r head attempts e = failure.Sector (record { error = e; place = place_under r head; attempts = attempts_with attempts })
+abbrev pub sector_failure : Registers → Selection → ℕ → SectorError → Failure
+sector_failure r at attempts e = failure.Sector (record { error = e; place = place_under r at; attempts = attempts_with attempts })
 
 -- ---- judging a read attempt
 -- What an attempt showed, by its answer and what it left in the buffer: an error, or the difference of what was delivered.
@@ -72,7 +73,8 @@ abbrev pub retried : ℕ → Option ℕ → SectorError → Verdict
 retried attempts previous e = cond (nat_lt attempts 8) (Retry previous) (Fail e)
 
 -- What is done about an attempt, by the attempts made before it and the difference of the one just before.
--- Bad block fails at once; a drive that is not ready, which no run meets here, aborts. Under ECC a nonzero difference equal to the one just before is corrected.
+-- Bad block fails at once; a drive that is not ready, which no history meets, aborts. Under ECC a nonzero difference equal to
+-- the one just before is corrected.
 abbrev pub verdict_of : CheckMode → ℕ → Option ℕ → Result (Option ℕ) ReadError → Verdict
 verdict_of mode attempts previous (Err read_error.NotReady) = Abort
 verdict_of mode attempts previous (Err read_error.NoId) = retried attempts None error.IdNotFound
@@ -108,22 +110,22 @@ corrected_by (Some burst) s m f = sector_taken (with_corrected s (mended_buffer 
 corrected_by None s m f = read_failed s m f
 
 -- what a verdict leads to
-abbrev pub read_by : Verdict → State → ReadJob → ℕ → State
-read_by Take s j head = sector_taken s j.mode
-read_by (Correct d) s j head =
-    corrected_by (first_burst (size_at s.registers.sdh) d) s j.mode (sector_failure s.registers head j.attempts error.Data)
-read_by (Retry previous) s j head =
+abbrev pub read_by : Verdict → State → ReadJob → Selection → State
+read_by Take s j at = sector_taken s j.mode
+read_by (Correct d) s j at =
+    corrected_by (first_burst (size_at s.registers.sdh) d) s j.mode (sector_failure s.registers at j.attempts error.Data)
+read_by (Retry previous) s j at =
     with_phase s (Busy (job.Read (record { mode = j.mode; attempts = attempts_with j.attempts; previous = previous })))
-read_by (Fail e) s j head = read_failed s j.mode (sector_failure s.registers head j.attempts e)
-read_by Abort s j head = failed s failure.Aborted
+read_by (Fail e) s j at = read_failed s j.mode (sector_failure s.registers at j.attempts e)
+read_by Abort s j at = failed s failure.Aborted
 
 -- what an attempt's answer leads to, with what it delivered in the buffer
-unfoldable pub read_judged : Result (Unit {0}) ReadError → State → ReadJob → ℕ → State
-read_judged a s j head =
+unfoldable pub read_judged : Result (Unit {0}) ReadError → State → ReadJob → Selection → State
+read_judged a s j at =
     read_by
     (verdict_of (mode_at s.registers.sdh) j.attempts j.previous
     (outcome_of a j.mode.long (mode_at s.registers.sdh) (size_at s.registers.sdh) s.buffer))
-    s j head
+    s j at
 
 -- ---- what a write attempt leads to
 -- the sector is written: with M = 1 the count goes down and the number up, and the next sector is asked for until the count is 0
@@ -133,16 +135,16 @@ sector_written s m =
     (let t = with_registers s (next_sector s.registers) in cond (t.registers.count == 0) (ended t) (with_phase t (Taking (Sector m) 0)))
     (ended s)
 
--- what an attempt's answer leads to; that the drive refuses is met in no run
-abbrev pub write_judged : Result (Unit {0}) WriteError → State → WriteJob → ℕ → State
-write_judged (Ok _) s j head = sector_written s j.mode
-write_judged (Err write_error.NotReady) s j head = failed s failure.Aborted
-write_judged (Err write_error.Protected) s j head = failed s failure.Aborted
-write_judged (Err write_error.NoId) s j head =
+-- what an attempt's answer leads to; that the drive refuses is met in no history
+abbrev pub write_judged : Result (Unit {0}) WriteError → State → WriteJob → Selection → State
+write_judged (Ok _) s j at = sector_written s j.mode
+write_judged (Err write_error.NotReady) s j at = failed s failure.Aborted
+write_judged (Err write_error.Protected) s j at = failed s failure.Aborted
+write_judged (Err write_error.NoId) s j at =
     cond (nat_lt j.attempts 8)
     (with_phase s (Busy (job.Write (record { mode = j.mode; attempts = attempts_with j.attempts }))))
-    (failed s (sector_failure s.registers head j.attempts error.IdNotFound))
-write_judged (Err write_error.BadBlock) s j head = failed s (sector_failure s.registers head j.attempts error.BadBlock)
+    (failed s (sector_failure s.registers at j.attempts error.IdNotFound))
+write_judged (Err write_error.BadBlock) s j at = failed s (sector_failure s.registers at j.attempts error.BadBlock)
 
 -- ---- formats
 -- the sector that pair i of a format's bytes gives: bit 7 of the first byte is the bad mark, the second is the number
@@ -158,7 +160,7 @@ ids_of bytes (suc n) = ids_of bytes n ++ (id_at bytes n ∷ [])
 abbrev pub zero_check : CheckMode → SizeCode → List ℕ
 zero_check mode size = check_bytes_of (code_of mode) (replicate (bytes_of size) 0)
 
--- a done format ends with count 0; that the drive refuses is met in no run
+-- a done format ends with count 0; that the drive refuses is met in no history
 abbrev pub format_judged : Result (Unit {0}) FormatError → State → State
 format_judged (Ok _) s = ended (with_registers s (at_count_0 s.registers))
 format_judged (Err e) s = failed s failure.Aborted

@@ -1,3 +1,4 @@
+pub mod Bays
 pub mod Registers
 pub mod Commands
 pub mod Failures

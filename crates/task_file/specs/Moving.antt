@@ -49,17 +49,6 @@ offered_in (Busy j) s = 0
 offered_in (Offering m at) s = byte_at s.buffer (bytes_of (size_at s.registers.sdh)) at
 offered_in (Taking l at) s = 0
 
--- whether a place stands before that of the sector's last byte
-abbrev pub is_inside : ℕ → State → Bool
-is_inside at s = nat_lt at (bytes_of (size_at s.registers.sdh) - 1)
-
--- whether the byte that is offered stands there
-abbrev pub offers_inside : Phase → State → Bool
-offers_inside Rest s = false
-offers_inside (Busy j) s = false
-offers_inside (Offering m at) s = is_inside at s
-offers_inside (Taking l at) s = false
-
 -- it was drawn; in another phase nothing changes
 abbrev pub drawn_in : Phase → State → State
 drawn_in Rest s = s
@@ -92,13 +81,6 @@ unfoldable pub put : State → Load → ℕ → ℕ → State
 put s l at byte =
     let t = with_buffer s (with_byte s.buffer (bytes_of (size_at s.registers.sdh)) at byte) in
     cond (nat_lt at (moved_length (size_at s.registers.sdh) (load_is_long l) - 1)) (with_phase t (Taking l (at + 1))) (filled t l)
-
--- whether the byte that is asked for goes before the sector's last
-abbrev pub takes_inside : Phase → State → Bool
-takes_inside Rest s = false
-takes_inside (Busy j) s = false
-takes_inside (Offering m at) s = false
-takes_inside (Taking l at) s = is_inside at s
 
 -- it was taken; in another phase it is dropped
 abbrev pub put_in : Phase → State → ℕ → State

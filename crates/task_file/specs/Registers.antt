@@ -7,8 +7,8 @@ use Rattle.check_code.specs.declared.mode.CheckMode.TheVariants.{Crc, Ecc}
 use Rattle.task_file.specs.declared.registers.Register.{Register}
 use Rattle.task_file.specs.declared.registers.Register.TheVariants as register
 use Rattle.task_file.specs.declared.registers.Registers.{Registers}
-use Rattle.task_file.specs.declared.registers.Selection.{Selection}
-use Rattle.task_file.specs.declared.registers.Selection.TheVariants.{Winchester, Floppy}
+use Rattle.task_file.specs.declared.bay.Bay.TheVariants.{Winchester1, Floppy1}
+use Rattle.task_file.specs.declared.bay.Selection.{Selection}
 
 -- the number of a register
 abbrev pub register_number : Register → ℕ
@@ -60,12 +60,12 @@ size_at sdh =
 abbrev pub mode_at : ℕ → CheckMode
 mode_at sdh = cond (nat_le 128 sdh) Ecc Crc
 
--- the drive and its head: bits 4 and 3 of SDH are 0 for Winchester 1, with the head in bits 2 to 0, or 3 for a floppy;
--- then bits 2 and 1 are 0 for floppy 1, and bit 0 is the head. Anything else selects no drive.
+-- the bay and the head: bits 4 and 3 of SDH are 0 for Winchester 1, with the head in bits 2 to 0, or 3 for a floppy;
+-- then bits 2 and 1 are 0 for floppy 1, and bit 0 is the head. Anything else selects no bay.
 abbrev pub selected : ℕ → Option Selection
 selected sdh =
-    cond (sdh / 8 % 4 == 0) (Some (Winchester (sdh % 8)))
-    (cond (sdh / 8 % 4 == 3 && sdh / 2 % 4 == 0) (Some (Floppy (sdh % 2))) None)
+    cond (sdh / 8 % 4 == 0) (Some (record { bay = Winchester1; head = sdh % 8 }))
+    (cond (sdh / 8 % 4 == 3 && sdh / 2 % 4 == 0) (Some (record { bay = Floppy1; head = sdh % 2 })) None)
 
 -- how many sectors a count stands for: 0 is 256
 abbrev pub sector_count : Registers → ℕ

@@ -3,6 +3,7 @@ use Rattle.std.specs.Prelude.{ℕ, ◌+◌, false, cond, not, ◌&&◌, ◌||◌
 use Rattle.std.specs.Option.{option_map_or}
 use Rattle.task_file.specs.declared.state.State.{State}
 use Rattle.task_file.specs.declared.view.DriveView.{DriveView}
+use Rattle.task_file.specs.Bays.{is_floppy}
 use Rattle.task_file.specs.State.{is_busy, requests}
 
 -- What a read of the status register gives: 80h while BUSY is on. Otherwise bits 6 and 4 say that the selected drive is
@@ -11,5 +12,5 @@ use Rattle.task_file.specs.State.{is_busy, requests}
 abbrev pub status_of : State → Option DriveView → ℕ
 status_of s v =
     cond (is_busy s.phase) 0x80
-    (cond (option_map_or (λ d. d.ready) v false) 0x50 0 + cond (s.note || option_map_or (λ d. d.protected && not d.floppy) v false) 0x20 0
+    (cond (option_map_or (λ d. d.ready) v false) 0x50 0 + cond (s.note || option_map_or (λ d. d.protected && not (is_floppy d.at.bay)) v false) 0x20 0
     + cond (requests s.phase) 0x08 0 + cond s.corrected 0x04 0 + cond (is_some s.failure) 0x01 0)

@@ -4,6 +4,7 @@ ghost use Rattle.sector.specs.Sizes.{bytes_of};
 ghost use Rattle.task_file.specs.Registers.{size_at, mode_at};
 ghost use Rattle.task_file.specs.Attempts.{attempts_with, address_under, sector_failure, offering, sector_taken, retried, outcome_of, verdict_of, read_failed, mended_buffer, corrected_by, read_by, read_judged, sector_written, write_judged, id_at, ids_of, zero_check, format_judged};
 
+use super::bay::Selection;
 use super::command::{ReadMode, WriteMode};
 use super::failure::{Failure, SectorError, SectorFailure};
 use super::registers::Registers;
@@ -70,24 +71,24 @@ fn verdict_on(
 }
 
 impl Registers {
-    /// The sector that the registers name, under a head.
-    pub fn address(self, head: u8) -> SectorAddress
-        ensures { result ≡ address_under self head }
+    /// The sector that the registers name, under the selected head.
+    pub fn address(self, at: Selection) -> SectorAddress
+        ensures { result ≡ address_under self at }
     {
         SectorAddress {
-            head,
+            head: at.head,
             number: self.number,
             size: self.size(),
         }
     }
 
     // A failure at the sector that the registers name.
-    fn failure(self, head: u8, attempts: u8, error: SectorError) -> Failure
-        ensures { result ≡ sector_failure self head attempts error }
+    fn failure(self, at: Selection, attempts: u8, error: SectorError) -> Failure
+        ensures { result ≡ sector_failure self at attempts error }
     {
         let place = Place {
             cylinder: self.cylinder(),
-            head,
+            head: at.head,
             number: self.number,
         };
         Failure::Sector(SectorFailure {
@@ -175,16 +176,16 @@ impl State {
         }
     }
 
-    // Does what a verdict says, at a sector under a head.
-    fn follow(&mut self, verdict: Verdict, job: ReadJob, head: u8)
-        ensures { self.new ≡ read_by verdict self.old job head }
+    // Does what a verdict says, at the selected drive.
+    fn follow(&mut self, verdict: Verdict, job: ReadJob, at: Selection)
+        ensures { self.new ≡ read_by verdict self.old job at }
     {
         let registers = self.registers;
         match verdict {
             Verdict::Take => self.take_sector(job.mode),
             Verdict::Correct(difference) => {
                 let found = find_burst(difference, registers.size());
-                let failure = registers.failure(head, job.attempts, SectorError::Data);
+                let failure = registers.failure(at, job.attempts, SectorError::Data);
                 self.correct(found, job.mode, failure);
             }
             Verdict::Retry(previous) => {
@@ -195,7 +196,7 @@ impl State {
                 }));
             }
             Verdict::Fail(error) => {
-                self.fail_read(job.mode, registers.failure(head, job.attempts, error));
+                self.fail_read(job.mode, registers.failure(at, job.attempts, error));
             }
             Verdict::Abort => self.fail(Failure::Aborted),
         }
@@ -203,14 +204,14 @@ impl State {
 
     /// Judges a read attempt by its answer and what it delivered into the buffer.
     #[tactic(auto, unfolding(crate::specs::Attempts::read_judged))]
-    pub fn judge_read(&mut self, answer: Result<(), ReadError>, job: ReadJob, head: u8)
-        ensures { self.new ≡ read_judged answer self.old job head }
+    pub fn judge_read(&mut self, answer: Result<(), ReadError>, job: ReadJob, at: Selection)
+        ensures { self.new ≡ read_judged answer self.old job at }
     {
         let mode = self.registers.mode();
         let size = self.registers.size();
         let outcome = outcome_of(answer, job.mode.long, mode, size, &self.buffer);
         let verdict = verdict_on(mode, job.attempts, job.previous, outcome);
-        self.follow(verdict, job, head);
+        self.follow(verdict, job, at);
     }
 
     // The sector is written: the next one is asked for, or the write ends.
@@ -228,8 +229,8 @@ impl State {
     }
 
     /// Judges a write attempt by its answer.
-    pub fn judge_write(&mut self, answer: Result<(), WriteError>, job: WriteJob, head: u8)
-        ensures { self.new ≡ write_judged answer self.old job head }
+    pub fn judge_write(&mut self, answer: Result<(), WriteError>, job: WriteJob, at: Selection)
+        ensures { self.new ≡ write_judged answer self.old job at }
     {
         let registers = self.registers;
         match answer {
@@ -242,10 +243,10 @@ impl State {
                 }));
             }
             Err(WriteError::NoId) => {
-                self.fail(registers.failure(head, job.attempts, SectorError::IdNotFound));
+                self.fail(registers.failure(at, job.attempts, SectorError::IdNotFound));
             }
             Err(WriteError::BadBlock) => {
-                self.fail(registers.failure(head, job.attempts, SectorError::BadBlock));
+                self.fail(registers.failure(at, job.attempts, SectorError::BadBlock));
             }
         }
     }

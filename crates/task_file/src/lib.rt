@@ -6,6 +6,7 @@
 #![tactic(auto)]
 
 mod attempts;
+mod bay;
 mod begin;
 mod command;
 mod failure;
@@ -16,8 +17,9 @@ mod status;
 mod view;
 
 pub use attempts::{format_ids, zero_check};
+pub use bay::{BAYS, Bay, Selection};
 pub use command::{Command, NoSuchCommand, ReadMode, WriteMode};
 pub use failure::{Failure, Fault, Layer, SectorError, SectorFailure};
-pub use registers::{NoSuchRegister, Register, Registers, Selection};
+pub use registers::{NoSuchRegister, Register, Registers};
 pub use state::{Job, Load, Phase, ReadJob, State, WriteJob};
 pub use view::DriveView;

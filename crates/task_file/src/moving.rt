@@ -1,8 +1,8 @@
 //! Bytes that move between the host and the buffer.
-ghost use Rattle.std.specs.Prelude.{◌≡◌, ◌+◌, cond, Some, None};
+ghost use Rattle.std.specs.Prelude.{◌≡◌};
 ghost use Rattle.sector.specs.Sizes.{bytes_of};
 ghost use Rattle.task_file.specs.Registers.{size_at};
-ghost use Rattle.task_file.specs.Moving.{byte_at, with_byte, moved_length, load_is_long, all_drawn, drawn, offered_in, offers_inside, drawn_in, checked, filled, put, takes_inside, put_in};
+ghost use Rattle.task_file.specs.Moving.{byte_at, with_byte, moved_length, load_is_long, all_drawn, drawn, offered_in, drawn_in, checked, filled, put, put_in};
 
 use super::command::ReadMode;
 use super::state::{Job, Load, Phase, ReadJob, State, WriteJob};
@@ -60,10 +60,10 @@ impl State {
         }
     }
 
-    /// The byte that is offered goes out; where none is, 0 does.
+    // The byte that is offered goes out, wherever it stands; where none is, 0 does.
     #[inline(never)]
     #[tactic(auto, unfolding(crate::specs::Moving::drawn))]
-    pub fn draw(&mut self) -> u8
+    fn draw_anywhere(&mut self) -> u8
         ensures byte { result ≡ offered_in self.old.phase self.old }
         ensures after { self.new ≡ drawn_in self.old.phase self.old }
     {
@@ -80,27 +80,23 @@ impl State {
         byte
     }
 
-    /// The byte that is offered goes out, if it stands before the sector's last: then nothing but
-    /// the place changes.
-    #[inline]
+    /// The byte that is offered goes out; where none is, 0 does. Before the sector's last byte
+    /// nothing but the place changes.
+    #[inline(always)]
     #[tactic(auto, unfolding(crate::specs::Moving::drawn))]
-    pub fn draw_inside(&mut self) -> Option<u8>
-        ensures byte { result
-            ≡ cond (offers_inside self.old.phase self.old)
-            (Some (offered_in self.old.phase self.old)) None }
-        ensures after { self.new
-            ≡ cond (offers_inside self.old.phase self.old)
-            (drawn_in self.old.phase self.old) self.old }
+    pub fn draw(&mut self) -> u8
+        ensures byte { result ≡ offered_in self.old.phase self.old }
+        ensures after { self.new ≡ drawn_in self.old.phase self.old }
     {
         let last = self.registers.size().bytes() - 1;
         if let Phase::Offering(_, at) = &mut self.phase {
             let place = *at as usize;
             if place < last {
                 *at += 1;
-                return Some(self.buffer.bytes[place]);
+                return self.buffer.bytes[place];
             }
         }
-        None
+        self.draw_anywhere()
     }
 
     // The check bytes of a plain write are made of its bytes.
@@ -126,10 +122,10 @@ impl State {
         }
     }
 
-    /// A byte comes in; where none is asked for, it is dropped.
+    // A byte comes in, wherever it goes; where none is asked for, it is dropped.
     #[inline(never)]
     #[tactic(auto, unfolding(crate::specs::Moving::put))]
-    pub fn put(&mut self, byte: u8)
+    fn put_anywhere(&mut self, byte: u8)
         ensures { self.new ≡ put_in self.old.phase self.old byte }
     {
         let Phase::Taking(load, at) = self.phase else {
@@ -144,15 +140,12 @@ impl State {
         }
     }
 
-    /// A byte comes in, if it goes before the sector's last: then nothing but the buffer and the
-    /// place changes.
-    #[inline]
+    /// A byte comes in; where none is asked for, it is dropped. Before the sector's last byte
+    /// nothing but the buffer and the place changes.
+    #[inline(always)]
     #[tactic(auto, unfolding(crate::specs::Moving::put))]
-    pub fn put_inside(&mut self, byte: u8) -> bool
-        ensures answer { result ≡ takes_inside self.old.phase self.old }
-        ensures after { self.new
-            ≡ cond (takes_inside self.old.phase self.old)
-            (put_in self.old.phase self.old byte) self.old }
+    pub fn put(&mut self, byte: u8)
+        ensures { self.new ≡ put_in self.old.phase self.old byte }
     {
         let last = self.registers.size().bytes() - 1;
         if let Phase::Taking(_, at) = &mut self.phase {
@@ -160,10 +153,10 @@ impl State {
             if place < last {
                 *at += 1;
                 self.buffer.bytes[place] = byte;
-                return true;
+                return;
             }
         }
-        false
+        self.put_anywhere(byte);
     }
 }
 

@@ -3,6 +3,7 @@ ghost use Rattle.std.specs.Prelude.{◌≡◌};
 ghost use Rattle.std.specs.Result.{result_ok};
 ghost use Rattle.task_file.specs.Registers.{register_number, register_numbered, cylinder_of, size_at, mode_at, selected, next_sector, sector_count, stored};
 
+use super::bay::{Bay, Selection};
 use check_code::CheckMode;
 use sector::SizeCode;
 use thiserror::Error;
@@ -44,13 +45,6 @@ pub struct Registers {
     pub high: u8,
     /// Bit 7 check code, bits 6 and 5 size code, bits 4 to 0 drive and head.
     pub sdh: u8,
-}
-
-/// A drive that SDH can select, with the head on it.
-#[derive(Clone, Copy)]
-pub enum Selection {
-    Winchester(u8),
-    Floppy(u8),
 }
 
 impl TryFrom<u8> for Register {
@@ -109,13 +103,19 @@ impl Registers {
         }
     }
 
-    /// The drive and the head, in bits 4 to 0 of SDH, if they select a drive.
+    /// The bay and the head, in bits 4 to 0 of SDH, if they select a bay.
     pub fn selection(self) -> Option<Selection>
         ensures { result ≡ selected self.sdh }
     {
         match self.sdh / 8 % 4 {
-            0 => Some(Selection::Winchester(self.sdh % 8)),
-            3 if self.sdh / 2 % 4 == 0 => Some(Selection::Floppy(self.sdh % 2)),
+            0 => Some(Selection {
+                bay: Bay::Winchester1,
+                head: self.sdh % 8,
+            }),
+            3 if self.sdh / 2 % 4 == 0 => Some(Selection {
+                bay: Bay::Floppy1,
+                head: self.sdh % 2,
+            }),
             _ => None,
         }
     }

@@ -60,10 +60,10 @@ pub enum Load {
 /// The controller is at rest, busy, or moving bytes one way: then it counts those that have moved.
 #[derive(Clone, Copy)]
 pub enum Phase {
-    Rest,
-    Busy(Job),
     Offering(ReadMode, u16),
+    Rest,
     Taking(Load, u16),
+    Busy(Job),
 }
 
 /// Registers, failure, flags, line, phase and buffer.

@@ -34,7 +34,7 @@ impl State {
             return 0x80;
         }
         let ready = view.is_some_and(|drive| drive.ready);
-        let locked = view.is_some_and(|drive| drive.protected && !drive.floppy);
+        let locked = view.is_some_and(|drive| drive.protected && !drive.at.bay.is_floppy());
         0x50 * u8::from(ready)
             + 0x20 * u8::from(self.note || locked)
             + 0x08 * u8::from(self.phase.requests())

@@ -2,6 +2,7 @@
 ghost use Rattle.std.specs.Prelude.{◌≡◌, Some};
 ghost use Rattle.task_file.specs.Aborting.{is_unusable, unfit_for_floppy, refuses_format, is_hindered, aborts, guards};
 
+use super::bay::Selection;
 use super::command::Command;
 use super::registers::Registers;
 use check_code::CheckMode;
@@ -10,9 +11,8 @@ use drive::MOST_SECTORS;
 /// The selected drive, as far as commands and the status depend on it.
 #[derive(Clone, Copy)]
 pub struct DriveView {
-    pub floppy: bool,
-    /// The head that SDH selects on it.
-    pub head: u8,
+    /// Its bay, and the head on it.
+    pub at: Selection,
     pub ready: bool,
     pub protected: bool,
     /// Its measures, here and in the fields below.
@@ -26,14 +26,14 @@ impl DriveView {
     fn is_unusable(self) -> bool
         ensures { result ≡ is_unusable self }
     {
-        !self.ready || self.protected && !self.floppy
+        !self.ready || self.protected && !self.at.bay.is_floppy()
     }
 
     // Whether it is a floppy, and ECC or L is asked for.
     fn is_unfit(self, command: Command, mode: CheckMode) -> bool
         ensures { result ≡ unfit_for_floppy command mode self }
     {
-        self.floppy && (mode == CheckMode::Ecc || command.is_long())
+        self.at.bay.is_floppy() && (mode == CheckMode::Ecc || command.is_long())
     }
 
     // Whether the head, the count or the room on a track would make the drive refuse a format.
@@ -42,14 +42,14 @@ impl DriveView {
     {
         let count = registers.sectors() as usize;
         let bytes = count * registers.size().bytes();
-        self.head >= self.heads || count > MOST_SECTORS || bytes > self.capacity as usize
+        self.at.head >= self.heads || count > MOST_SECTORS || bytes > self.capacity as usize
     }
 
     /// Whether the command is a Write or Format, and the drive a protected floppy.
     pub fn guards(self, command: Command) -> bool
         ensures { result ≡ guards command self }
     {
-        command.writes() && self.floppy && self.protected
+        command.writes() && self.at.bay.is_floppy() && self.protected
     }
 
     // Whether something stands against any command but Test.

@@ -1,4 +1,11 @@
 //! An image as a drive.
+#![tactic(auto, unfolding(drive::specs::Calls::step_answer, // what steps answer
+drive::specs::Calls::stepped_in, drive::specs::Calls::stepped_out, // and leave
+drive::specs::Calls::read_answer, drive::specs::Calls::handed_over, // reads
+drive::specs::Calls::after_read, drive::specs::Calls::write_answer, // writes
+drive::specs::Calls::after_write, drive::specs::Calls::format_answer, // formats
+drive::specs::Calls::after_format))]
+
 ghost use Rattle.std.specs.Prelude.{◌≡◌, ◌+◌, ◌*◌, ◌<◌, ◌≤◌, length, IfSome, OnOk};
 ghost use Rattle.drive.specs.Model.{slot_of};
 ghost use Rattle.drive.specs.Calls.{track_under, format_answer};
@@ -50,7 +57,6 @@ impl<M: Make> Image<M> {
     }
 
     // What stands first against a format, or that nothing does.
-    #[tactic(auto, unfolding(drive::specs::Calls::format_answer))]
     fn judge_format(&self, head: u8, ids: &[SectorId], size: SizeCode) -> Result<(), FormatError>
         ensures answer { result ≡ format_answer (model_of self.now) head ids.now size }
         ensures granted { OnOk result
@@ -112,7 +118,6 @@ impl<M: Make> Drive for Image<M> {
         self.cylinder
     }
 
-    #[tactic(auto, unfolding(drive::specs::Calls::step_answer, drive::specs::Calls::stepped_in))]
     fn step_in(&mut self) -> Result<(), NotReady> {
         if self.cylinder + 1 < self.geometry.cylinders {
             self.cylinder += 1;
@@ -120,7 +125,6 @@ impl<M: Make> Drive for Image<M> {
         Ok(())
     }
 
-    #[tactic(auto, unfolding(drive::specs::Calls::step_answer, drive::specs::Calls::stepped_out))]
     fn step_out(&mut self) -> Result<(), NotReady> {
         if self.cylinder > 0 {
             self.cylinder -= 1;
@@ -128,9 +132,6 @@ impl<M: Make> Drive for Image<M> {
         Ok(())
     }
 
-    #[tactic(auto, unfolding(drive::specs::Calls::read_answer, // the answer
-    drive::specs::Calls::handed_over, // the buffer
-    drive::specs::Calls::after_read))]
     fn read(&mut self, at: SectorAddress, buffer: &mut SectorBuffer) -> Result<(), ReadError> {
         let Some(slot) = self.find(at) else {
             return Err(ReadError::NoId);
@@ -143,7 +144,6 @@ impl<M: Make> Drive for Image<M> {
         )
     }
 
-    #[tactic(auto, unfolding(drive::specs::Calls::write_answer, drive::specs::Calls::after_write))]
     fn write(&mut self, at: SectorAddress, buffer: &SectorBuffer) -> Result<(), WriteError> {
         if self.protected {
             return Err(WriteError::Protected);
@@ -155,8 +155,6 @@ impl<M: Make> Drive for Image<M> {
         write_slot(&mut self.memory[range], slot, at.size, buffer)
     }
 
-    #[tactic(auto, unfolding(drive::specs::Calls::format_answer, // the answer
-    drive::specs::Calls::after_format))]
     fn format(
         &mut self,
         head: u8,

@@ -10,7 +10,7 @@ use Rattle.task_file.specs.Moving.{drawn, put}
 use Rattle.task_file.specs.Attempts.{read_judged}
 use Rattle.controller.specs.Access.{read_answer_of, state_after_read, write_answer_of, state_after_write}
 use Rattle.controller.specs.Turns.{worked}
-use Rattle.histories.specs.Runs.{runs}
+use Rattle.controller.specs.Runs.{runs}
 use Rattle.histories.proofs.examples.examples_stand.Goals as goal
 
 pub returns : goal.returns

@@ -1,10 +1,10 @@
 -- So far as many bytes have been given as the index says.
 use Rattle.std.proofs.Common.{◌≡◌}
-use Rattle.controller.specs.Model.{model_of}
+use Rattle.controller.specs.Controller.{model_of}
 use Rattle.rounds.specs.Rounds.{heard, given}
 use Rattle.rounds.proofs.calls.give.Given as goal
 
 abbrev pub invariant-loop-at : goal.invariant-loop-at
 invariant-loop-at g l =
-    heard (model_of g.W.Drive.meaning g.F.Drive.meaning l.controller) l.sum
-    ≡ given l.number l.at (heard (model_of g.W.Drive.meaning g.F.Drive.meaning l.initial.controller) l.start)
+    heard (model_of g.D.Drive.meaning l.controller) l.sum
+    ≡ given l.number l.at (heard (model_of g.D.Drive.meaning l.initial.controller) l.start)

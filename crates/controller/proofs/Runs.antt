@@ -2,8 +2,8 @@
 use Rattle.std.proofs.Common.{◌≡◌, ℕ, ◌+◌, ◌<◌, List, [], ◌∷◌, ◌++◌, length, get_or, take, refl, ap, ◌∙◌}
 use Rattle.std.proofs.lemmas.List.{take_more}
 use Rattle.controller.specs.Model.{ControllerModel}
-use Rattle.histories.specs.declared.call.Call.{Call}
-use Rattle.histories.specs.Runs.{answer_to, called, runs, answers}
+use Rattle.controller.specs.declared.call.Call.{Call}
+use Rattle.controller.specs.Runs.{answer_to, called, runs, answers}
 
 -- a run of two lists is a run of the first and then of the second
 pub runs_joined : (b : ControllerModel) (cs ds : List Call) → runs b (cs ++ ds) ≡ runs (runs b cs) ds

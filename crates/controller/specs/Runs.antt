@@ -1,10 +1,12 @@
--- Calls and their answers, and histories: lists of calls from the making of a controller on.
+-- Calls and their answers, and histories: lists of calls on a controller from its making on.
 use Rattle.std.specs.Prelude.{◌≡◌, ℕ, List, [], ◌∷◌, ◌++◌, Some, None, Ok, Err, Option, Result}
-use Rattle.drive.specs.Model.{DriveModel}
+use Rattle.drive.specs.Bounds.{ADrive}
+use Rattle.task_file.specs.declared.bay.Bay.{Bay}
+use Rattle.task_file.specs.State.{fresh}
 use Rattle.controller.specs.declared.access.Refusal.{Refusal}
-use Rattle.controller.specs.Model.{ControllerModel, made, read_answered, after_register_read, write_answered, after_register_write, after_turn, after_reset}
-use Rattle.histories.specs.declared.call.Call.{Call}
-use Rattle.histories.specs.declared.call.Call.TheVariants.{Read, Write, Turn, Reset}
+use Rattle.controller.specs.Model.{ControllerModel, read_answered, after_register_read, write_answered, after_register_write, after_turn, after_reset}
+use Rattle.controller.specs.declared.call.Call.{Call}
+use Rattle.controller.specs.declared.call.Call.TheVariants.{Read, Write, Turn, Reset}
 
 -- ---- one call
 -- an answer: the byte that was read, that the call is done, or why it was refused
@@ -55,18 +57,19 @@ answers b [] = []
 answers b (c ∷ cs) = answer_to b c ∷ answers (called b c) cs
 
 -- ---- histories
--- where a history leads from the making of a controller over two drives
-abbrev pub at : DriveModel → DriveModel → List Call → ControllerModel
-at w f history = runs (made w f) history
+-- A new controller: its state is the fresh one, and each bay has a drive.
+pub record IsNew (b : ControllerModel) : Type 0 where
+  pub is_fresh : b.state ≡ fresh
+  pub a_drive : (bay : Bay) → ADrive (b.drives bay)
 
--- For every pair of drives and every history that led from their making to `before`, that history continued by these
--- calls leads to `after`.
-abbrev pub Continues : ControllerModel → List Call → ControllerModel → Type 0
-Continues before calls after = (w f : DriveModel) (history : List Call) → at w f history ≡ before → at w f (history ++ calls) ≡ after
-
--- a controller that some history can lead to, from the making over some drives
+-- A controller that a history leads to: a list of calls, from a new controller on.
 pub record Reached (b : ControllerModel) : Type 0 where
-  pub winchester : DriveModel
-  pub floppy : DriveModel
+  pub new : ControllerModel
+  pub is_new : IsNew new
   pub history : List Call
-  pub leads : at winchester floppy history ≡ b
+  pub leads : runs new history ≡ b
+
+-- Every history that leads from a new controller to `before`, continued by these calls, leads to `after`.
+abbrev pub Continues : ControllerModel → List Call → ControllerModel → Type 0
+Continues before calls after =
+    (new : ControllerModel) → IsNew new → (history : List Call) → runs new history ≡ before → runs new (history ++ calls) ≡ after

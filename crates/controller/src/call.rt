@@ -1,9 +1,10 @@
 //! The calls on a controller, and their answers, as values.
 ghost use Rattle.std.specs.Prelude.{◌≡◌};
-ghost use Rattle.controller.specs.Model.{model_of};
-ghost use Rattle.histories.specs.Runs.{answer_to, called};
+ghost use Rattle.controller.specs.Controller.{model_of};
+ghost use Rattle.controller.specs.Runs.{answer_to, called};
 
-use controller::{Controller, Refusal};
+use super::access::Refusal;
+use super::controller::Controller;
 use drive::Drive;
 
 /// A call on a controller.
@@ -22,10 +23,10 @@ pub enum Call {
 pub type Answer = Result<Option<u8>, Refusal>;
 
 /// Makes one call.
-pub fn make_call<W: Drive, F: Drive>(controller: &mut Controller<W, F>, call: Call) -> Answer
-    ensures answer { result ≡ answer_to (model_of W.meaning F.meaning controller.old) call }
-    ensures after { model_of W.meaning F.meaning controller.new
-        ≡ called (model_of W.meaning F.meaning controller.old) call }
+pub fn make_call<D: Drive>(controller: &mut Controller<D>, call: Call) -> Answer
+    ensures answer { result ≡ answer_to (model_of D.meaning controller.old) call }
+    ensures after { model_of D.meaning controller.new
+        ≡ called (model_of D.meaning controller.old) call }
 {
     match call {
         Call::Read(number) => controller.read_register(number).map(Some),
