@@ -1,8 +1,7 @@
 /* Compares the controller in plain C with the proved one on pseudo-random calls: every answer, both lines, BUSY and the last
  * fault after each call, and every byte of both images at the end. */
+#include "common.h"
 #include "compare.h"
-
-#include "proved.h"
 
 #include <stdio.h>
 #include <stdlib.h>
@@ -15,15 +14,11 @@
 
 static const uint16_t size_bytes[4] = { 256, 512, 1024, 128 };
 
-static uint32_t seed = 2463534242u;
-
 /* a number below n */
 static unsigned below(unsigned n)
 {
-    seed ^= seed << 13;
-    seed ^= seed >> 17;
-    seed ^= seed << 5;
-    return (seed >> 8) % n;
+    static uint32_t seed = SEED;
+    return (next_random(&seed) >> 8) % n;
 }
 
 static bool chance(unsigned in)
@@ -194,7 +189,7 @@ static void show(const struct controller *c, struct answer *a)
     a->cylinder = c->fault.cylinder;
 }
 
-static struct answer make_call(struct controller *c, const struct call *call)
+struct answer make_call(struct controller *c, const struct call *call)
 {
     struct answer a = { 0 };
     int answer = 0;
@@ -226,14 +221,15 @@ static void answer_plainly(void)
 
 static bool answer_both(void)
 {
+    static const struct rounds none = { 0 };
+    uint32_t sum;
     for (int copy = 1; copy <= 2; copy++) {
         memcpy(winchester[copy], winchester[0], board.winchester_length);
         memcpy(floppy[copy], floppy[0], board.floppy_length);
     }
     answer_plainly();
     return disk_answers(&board.winchester, winchester[1], board.winchester_length, &board.floppy, floppy[1],
-                        board.floppy_length, board.faults, board.fault_count, calls, CALLS, proved,
-                        CALLS);
+                        board.floppy_length, board.faults, board.fault_count, calls, CALLS, proved, CALLS, &none, &sum);
 }
 
 static bool answers_agree(unsigned number)

@@ -19,35 +19,35 @@ enum answer { DONE, ANSWERS_NO_ID, ANSWERS_BAD_BLOCK, ANSWERS_NO_DATA_MARK };
 
 static const uint16_t bytes_of[4] = { 256, 512, 1024, 128 };
 
-/* ---- check codes: both registers stand at the top of 32 bits */
+/* ---- check codes */
 
-#define ECC_POLYNOMIAL 0x140a0445u
-#define CRC_POLYNOMIAL 0x10210000u
+struct code codes[2] = { { .polynomial = 0x10210000u, .start = 0xffff0000u }, { .polynomial = 0x140a0445u, .start = 0xffffffffu } };
 
-static uint32_t ecc_table[8][256], crc_table[8][256];
-static uint32_t undone[256]; /* what taking eight shifts back makes of the register's low byte */
+static uint32_t undone[256]; /* what taking eight shifts back makes of the low byte of the ECC's register */
 
-static void fill(uint32_t table[8][256], uint32_t polynomial)
+static void fill(struct code *code)
 {
     for (uint32_t b = 0; b < 256; b++) {
         uint32_t r = b << 24;
         for (int i = 0; i < 8; i++)
-            r = (r << 1) ^ (polynomial & -(r >> 31));
-        table[0][b] = r;
+            r = (r << 1) ^ (code->polynomial & -(r >> 31));
+        code->tables[0][b] = r;
     }
     for (int k = 1; k < 8; k++)
-        for (int b = 0; b < 256; b++)
-            table[k][b] = (table[k - 1][b] << 8) ^ table[0][table[k - 1][b] >> 24];
+        for (int b = 0; b < 256; b++) {
+            uint32_t r = code->tables[k - 1][b];
+            code->tables[k][b] = (r << 8) ^ code->tables[0][r >> 24];
+        }
 }
 
 void make_tables(void)
 {
-    fill(ecc_table, ECC_POLYNOMIAL);
-    fill(crc_table, CRC_POLYNOMIAL);
+    fill(&codes[false]);
+    fill(&codes[true]);
     for (uint32_t b = 0; b < 256; b++) {
         uint32_t r = b;
         for (int i = 0; i < 8; i++)
-            r = r & 1 ? (r ^ ECC_POLYNOMIAL) >> 1 | 0x80000000u : r >> 1;
+            r = r & 1 ? (r ^ codes[true].polynomial) >> 1 | 0x80000000u : r >> 1;
         undone[b] = r;
     }
 }
@@ -76,10 +76,9 @@ static uint32_t register_after(const uint32_t table[8][256], uint32_t r, const u
     return r;
 }
 
-/* under CRC the low half is 0 */
 uint32_t check_of(bool ecc, const uint8_t *bytes, size_t n)
 {
-    return ecc ? register_after(ecc_table, 0xffffffffu, bytes, n) : register_after(crc_table, 0xffff0000u, bytes, n);
+    return register_after(codes[ecc].tables, codes[ecc].start, bytes, n);
 }
 
 /* the difference of a delivered sector, whose check bytes stand behind it */

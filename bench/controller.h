@@ -65,6 +65,14 @@ struct controller {
     uint8_t buffer[1024 + 4]; /* the sector's bytes, and its check bytes right behind them */
 };
 
+/* a check code, its register at the top of 32 bits; tables[k] has what a byte and k zeros after it make of a register of 0 */
+struct code {
+    uint32_t polynomial, start;
+    uint32_t tables[8][256];
+};
+
+extern struct code codes[2]; /* CRC and ECC, by whether it is ECC */
+
 void make_tables(void); /* once, before all else */
 
 /* makes a drive at cylinder 0; with wrong measures it is an empty bay */
@@ -78,6 +86,7 @@ int read_register(struct controller *c, unsigned number); /* the byte, or minus 
 int write_register(struct controller *c, unsigned number, uint8_t byte); /* 0, or the number of the refusal */
 void turn(struct controller *c);
 
-uint32_t check_of(bool ecc, const uint8_t *bytes, size_t n); /* the check bytes of a sector, as one number */
+/* the check bytes of a sector, as one number; under CRC its low half is 0 */
+uint32_t check_of(bool ecc, const uint8_t *bytes, size_t n);
 
 #endif

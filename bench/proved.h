@@ -18,15 +18,19 @@ struct answer {
     uint16_t cylinder;
 };
 
-/* Each makes a controller over images with these bytes, makes its calls, and leaves in the bytes what the images hold then.
- * They answer false, or 0, where memory is wanting. */
+enum round_kind { READS, WRITES, REFUSALS };
+
+/* timed rounds: each reads a sector of 512 bytes with so many turns, writes one, or makes five accesses that are refused */
+struct rounds {
+    uint8_t kind, turns;
+    uint32_t count;
+};
+
+/* Makes a controller over images with these bytes, makes the calls and then the rounds, tells of each call and sums up the
+ * answers of the rounds, and leaves in the bytes what the images hold then. False where memory is wanting. */
 bool disk_answers(const struct measures *winchester, uint8_t *winchester_memory, size_t winchester_length,
                   const struct measures *floppy, uint8_t *floppy_memory, size_t floppy_length, const struct fault *faults,
                   size_t fault_count, const struct call *calls, size_t call_count, struct answer *answers,
-                  size_t answer_count);
-uint32_t disk_reads(const struct measures *winchester, uint8_t *memory, size_t length, const struct fault *faults,
-                    size_t fault_count, uint8_t turns, uint32_t rounds);
-uint32_t disk_writes(const struct measures *winchester, uint8_t *memory, size_t length, uint32_t rounds);
-uint32_t disk_refusals(const struct measures *winchester, uint8_t *memory, size_t length, uint32_t rounds);
+                  size_t answer_count, const struct rounds *rounds, uint32_t *sum);
 
 #endif

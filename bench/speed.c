@@ -1,16 +1,14 @@
 /* Compares the proved controller with the one in plain C (compare.c), and then times both on the same rounds: sectors read and
  * written through register 0, reads that correct a burst, and refused accesses. Both hear the same sums, and leave the same image.
  *
- * Each access is a call on either side: bench/controller.c is an object of its own, and crate `rounds` keeps its accesses out of
+ * Each access is a call on either side: bench/controller.c is an object of its own, and crate `c_abi` keeps its accesses out of
  * line. With a task's number and `proved` or `plain` only those rounds are made, for a profiler. */
-#define _POSIX_C_SOURCE 200809L
+#include "common.h"
 #include "compare.h"
-#include "proved.h"
 
 #include <stdio.h>
 #include <stdlib.h>
 #include <string.h>
-#include <time.h>
 
 #define SECTOR 512
 #define SECTORS 8
@@ -19,7 +17,7 @@
 
 static const struct measures measures = { 4, 2, false, SECTORS * SECTOR };
 
-/* ---- the rounds of crate `rounds`, on the controller in plain C */
+/* ---- the rounds of crate `c_abi`, on the controller in plain C */
 
 static uint32_t with_number(uint32_t sum, int number)
 {
@@ -37,12 +35,18 @@ static uint32_t hear_write(struct controller *c, unsigned number, unsigned byte,
     return with_number(sum, write_register(c, number, (uint8_t)byte));
 }
 
+static uint32_t hear_turn(struct controller *c, uint32_t sum)
+{
+    turn(c);
+    return with_number(sum, 0);
+}
+
 static uint32_t read_one(struct controller *c, unsigned turns, unsigned number, uint32_t sum)
 {
     sum = hear_write(c, 3, number, sum);
     sum = hear_write(c, 7, 0x20, sum);
     for (unsigned i = 0; i < turns; i++)
-        turn(c);
+        sum = hear_turn(c, sum);
     sum = hear_read(c, 7, sum);
     for (unsigned at = 0; at < SECTOR; at++)
         sum = hear_read(c, 0, sum);
@@ -55,7 +59,7 @@ static uint32_t write_one(struct controller *c, unsigned number, uint32_t sum)
     sum = hear_write(c, 7, 0x30, sum);
     for (unsigned at = 0; at < SECTOR; at++)
         sum = hear_write(c, 0, at + number, sum);
-    turn(c);
+    sum = hear_turn(c, sum);
     return hear_read(c, 7, sum);
 }
 
@@ -71,49 +75,44 @@ static uint32_t refuse(struct controller *c, uint32_t rounds, uint32_t sum)
     return sum;
 }
 
-static uint32_t make_ready(struct controller *c, uint32_t sum)
+static uint32_t make_rounds(struct controller *c, const struct rounds *r)
 {
-    turn(c);
-    return hear_write(c, 6, 0xa0, sum);
-}
-
-static uint32_t reads(struct controller *c, unsigned turns, uint32_t rounds)
-{
-    uint32_t sum = make_ready(c, 0);
-    for (uint32_t i = 0; i < rounds; i++)
-        sum = read_one(c, turns, i % SECTORS, sum);
-    return sum;
-}
-
-static uint32_t writes(struct controller *c, uint32_t rounds)
-{
-    uint32_t sum = make_ready(c, 0);
-    for (uint32_t i = 0; i < rounds; i++)
-        sum = write_one(c, i % SECTORS, sum);
-    return sum;
-}
-
-static uint32_t refusals(struct controller *c, uint32_t rounds)
-{
-    uint32_t sum = make_ready(c, refuse(c, rounds, 0));
-    sum = hear_write(c, 7, 0x20, sum);
-    turn(c);
-    return refuse(c, rounds, sum);
+    uint32_t sum = 0;
+    switch (r->kind) {
+    case READS:
+        for (uint32_t i = 0; i < r->count; i++)
+            sum = read_one(c, r->turns, i % SECTORS, sum);
+        return sum;
+    case WRITES:
+        for (uint32_t i = 0; i < r->count; i++)
+            sum = write_one(c, i % SECTORS, sum);
+        return sum;
+    default: return refuse(c, r->count, sum);
+    }
 }
 
 /* ---- the tasks */
 
+/* what precedes the rounds: Test ends, and SDH is set to ECC, 512 bytes, Winchester and head 0; a read offers its bytes */
+#define FIRST 4
+static const struct call first[FIRST] = { { CALL_TURN, 0, 0 }, { CALL_WRITE, 6, 0xa0 }, { CALL_WRITE, 7, 0x20 }, { CALL_TURN, 0, 0 } };
+
 enum task { READ, WRITE, CORRECTED, REFUSED, TASKS };
 
-/* how many rounds are timed, and how many sectors or accesses they are */
+/* rounds after so many of those calls, on one controller or, where the second count is not 0, on two, and how many sectors or
+ * accesses they are; BUSY is on before the first call, and bytes are offered after the last */
 static const struct {
     const char *name;
-    uint32_t rounds, units;
+    struct part {
+        size_t calls;
+        struct rounds rounds;
+    } parts[2];
+    uint32_t units;
 } tasks[TASKS] = {
-    [READ] = { "sector read, 512 bytes", 20000, 20000 },
-    [WRITE] = { "sector write, 512 bytes", 20000, 20000 },
-    [CORRECTED] = { "read with a corrected burst", 4000, 4000 },
-    [REFUSED] = { "a million refused accesses", 100000, 1 },
+    [READ] = { "sector read, 512 bytes", { { 2, { READS, 1, 20000 } } }, 20000 },
+    [WRITE] = { "sector write, 512 bytes", { { 2, { WRITES, 0, 20000 } } }, 20000 },
+    [CORRECTED] = { "read with a corrected burst", { { 2, { READS, 2, 4000 } } }, 4000 },
+    [REFUSED] = { "a million refused accesses", { { 0, { REFUSALS, 0, 100000 } }, { FIRST, { REFUSALS, 0, 100000 } } }, 1 },
 };
 
 /* A burst in each sector, from its first bits to its last; every attempt of the rounds shows it. */
@@ -126,33 +125,29 @@ static void make_bursts(void)
                                     .pattern = (uint8_t)(2 * (5 * i % 16) + 1), .attempts = 65535 };
 }
 
-static uint32_t run_plain(enum task task, uint8_t *bytes)
+static const struct measures no_floppy = { 0 };
+
+static uint32_t run_plain(const struct part *part, size_t faults, uint8_t *bytes)
 {
     static struct controller c;
-    static const struct measures none = { 0 };
-    uint32_t rounds = tasks[task].rounds;
     fit_winchester(&c.winchester, &measures, bytes, LENGTH);
-    fit_floppy(&c.floppy, &none, NULL, 0);
-    for (unsigned i = 0; task == CORRECTED && i < SECTORS; i++)
+    fit_floppy(&c.floppy, &no_floppy, NULL, 0);
+    for (size_t i = 0; i < faults; i++)
         add_fault(&c.winchester, &bursts[i]);
     master_reset(&c);
-    switch (task) {
-    case READ: return reads(&c, 1, rounds);
-    case WRITE: return writes(&c, rounds);
-    case CORRECTED: return reads(&c, 2, rounds);
-    default: return refusals(&c, rounds);
-    }
+    for (size_t i = 0; i < part->calls; i++)
+        make_call(&c, &first[i]);
+    return make_rounds(&c, &part->rounds);
 }
 
-static uint32_t run_proved(enum task task, uint8_t *bytes)
+static uint32_t run_proved(const struct part *part, size_t faults, uint8_t *bytes)
 {
-    uint32_t rounds = tasks[task].rounds;
-    switch (task) {
-    case READ: return disk_reads(&measures, bytes, LENGTH, NULL, 0, 1, rounds);
-    case WRITE: return disk_writes(&measures, bytes, LENGTH, rounds);
-    case CORRECTED: return disk_reads(&measures, bytes, LENGTH, bursts, SECTORS, 2, rounds);
-    default: return disk_refusals(&measures, bytes, LENGTH, rounds);
-    }
+    struct answer answers[FIRST];
+    uint8_t none;
+    uint32_t sum = 0;
+    disk_answers(&measures, bytes, LENGTH, &no_floppy, &none, 0, bursts, faults, first, part->calls, answers, part->calls,
+                 &part->rounds, &sum);
+    return sum;
 }
 
 /* ---- timing */
@@ -162,37 +157,28 @@ static uint8_t image[LENGTH], proved_image[LENGTH], plain_image[LENGTH];
 /* a formatted track with pseudo-random sectors */
 static void make_image(void)
 {
-    uint32_t x = 2463534242u;
+    uint32_t x = SEED;
     image[0] = SECTORS;
     image[1] = 1;
     for (unsigned i = 0; i < SECTORS; i++) {
         uint8_t *bytes = image + HEADER + i * SECTOR;
         image[2 + 2 * i] = (uint8_t)i;
-        for (unsigned at = 0; at < SECTOR; at++) {
-            x ^= x << 13;
-            x ^= x >> 17;
-            x ^= x << 5;
-            bytes[at] = (uint8_t)(x >> 11);
-        }
+        for (unsigned at = 0; at < SECTOR; at++)
+            bytes[at] = (uint8_t)(next_random(&x) >> 11);
         uint32_t check = check_of(true, bytes, SECTOR);
         for (unsigned k = 0; k < 4; k++)
             image[130 + 4 * i + k] = (uint8_t)(check >> (24 - 8 * k));
     }
 }
 
-/* the processor time of this process, so that others on the machine count little */
-static double seconds(void)
-{
-    struct timespec t;
-    clock_gettime(CLOCK_PROCESS_CPUTIME_ID, &t);
-    return (double)t.tv_sec + (double)t.tv_nsec * 1e-9;
-}
-
-static double timed(uint32_t (*run)(enum task, uint8_t *), enum task task, uint8_t *bytes, uint32_t *sum)
+static double timed(uint32_t (*run)(const struct part *, size_t, uint8_t *), enum task task, uint8_t *bytes, uint32_t *sum)
 {
     memcpy(bytes, image, LENGTH);
+    *sum = 0;
     double begun = seconds();
-    *sum = run(task, bytes);
+    for (const struct part *part = tasks[task].parts; part < tasks[task].parts + 2; part++)
+        if (part->rounds.count != 0)
+            *sum = with_number(*sum, (int)run(part, task == CORRECTED ? SECTORS : 0, bytes));
     return seconds() - begun;
 }
 

@@ -1,18 +1,19 @@
 -- A sector with at most one burst of wrong bits is given back as it was written.
-use Rattle.std.proofs.Common.{◌≡◌, ℕ, ◌+◌, ◌*◌, ◌<◌, false, eqb, List, length, Some, None, Option, Ok, sym, refl, ap, ◌∙◌, subst, ap₂, ⊎_elim, arith}
+use Rattle.std.proofs.Common.{◌≡◌, ℕ, ◌+◌, ◌*◌, ◌<◌, false, eqb, List, length, Some, None, Option, Ok, ok_or, option_map, sym, refl, ap, ◌∙◌, subst, ap₂, ⊎_elim, arith}
 use lib.Bits.{bit_xor}
 use Rattle.std.proofs.lemmas.Bool.{cond-true, cond-false, eq-eqb, ne_eqb}
 use Rattle.sector.specs.Sizes.{bytes_of, size_with}
 use Rattle.sector.specs.declared.wrong_bits.Burst.{Burst}
-use Rattle.sector.specs.Bits.{from_bit, inverted, OneBurst}
+use Rattle.sector.specs.Bits.{from_bit, inverted, OneBurst, set_of}
 use Rattle.sector.proofs.Sizes.{told_by_bytes}
 use Rattle.sector.proofs.Inverted.{length-inverted, inverted_none, inverted_back}
 use Rattle.check_code.specs.Code.{ecc_code, check_bytes_of, difference_of, amount_of}
 use Rattle.check_code.specs.Sound.{ecc_sound}
 use Rattle.check_code.proofs.Laws.{whole, inverting}
 use Rattle.check_code.proofs.Window.{amount_shows}
-use Rattle.burst.specs.Search.{bits_of, set_of, first_burst}
-use Rattle.burst.specs.Mending.{Correction, by_burst, judged, correction, mended, Delivered, Restored}
+use Rattle.burst.specs.Search.{bits_of, first_burst}
+use Rattle.burst.specs.Mending.{Correction, judged, correction, mended, Delivered, Restored}
+use Rattle.burst.specs.declared.mending.CorrectionError.TheVariants.{Uncorrectable}
 use Rattle.burst.proofs.Searching.{none_fits, fits}
 
 module _ (written bytes check : List ℕ) (d : Delivered written bytes check) where
@@ -65,18 +66,18 @@ module _ (written bytes check : List ℕ) (d : Delivered written bytes check) wh
         answer (Some f) e = (
           f,
           e,
-          cond-false (eqb (difference_of ecc_code bytes check) 0) (Ok None) (by_burst (first_burst d.size (difference_of ecc_code bytes check)))
+          cond-false (eqb (difference_of ecc_code bytes check) 0) (Ok None) _
               (ne_eqb (difference_of ecc_code bytes check) 0 burst_difference)
-              ∙ ap by_burst e,
+              ∙ ap (λ o. ok_or (option_map Some o) Uncorrectable) e,
         )
 
   -- ---- the correction, at the size that the bytes' length tells
-  pub size_told : size_with (length bytes) ≡ Some d.size
+  size_told : size_with (length bytes) ≡ Some d.size
   size_told = ap size_with (same_length ∙ sym d.long) ∙ told_by_bytes d.size
 
-  pub clean_answer : ((i : ℕ) → i < bits_of d.size → d.wrong i ≡ false) → judged d.size (difference_of ecc_code bytes check) ≡ Ok None
+  clean_answer : ((i : ℕ) → i < bits_of d.size → d.wrong i ≡ false) → judged d.size (difference_of ecc_code bytes check) ≡ Ok None
   clean_answer clean =
-      cond-true (eqb (difference_of ecc_code bytes check) 0) (Ok None) (by_burst (first_burst d.size (difference_of ecc_code bytes check)))
+      cond-true (eqb (difference_of ecc_code bytes check) 0) (Ok None) _
       (eq-eqb (difference_of ecc_code bytes check) 0 (clean_difference clean))
 
 restored : (bytes check : List ℕ) → Restored bytes check (mended (correction (size_with (length bytes)) bytes check) bytes)

@@ -1,26 +1,21 @@
 -- Mending a delivered sector.
-use Rattle.std.specs.Prelude.{◌≡◌, ℕ, ◌*◌, ◌<◌, false, cond, ◌⊎◌, List, length, Some, None, Option, Ok, Err, Result, ◌==◌}
+use Rattle.std.specs.Prelude.{◌≡◌, ℕ, ◌*◌, ◌<◌, false, cond, ◌⊎◌, List, length, Some, None, Option, Ok, Err, Result, ok_or, option_map, ◌==◌}
 use Rattle.sector.specs.declared.wrong_bits.Burst.{Burst}
 use Rattle.sector.specs.declared.size.SizeCode.{SizeCode}
 use Rattle.sector.specs.Sizes.{bytes_of}
-use Rattle.sector.specs.Bits.{BitSet, from_bit, inverted, OneBurst}
+use Rattle.sector.specs.Bits.{BitSet, from_bit, inverted, OneBurst, set_of}
 use Rattle.check_code.specs.Code.{ecc_code, check_bytes_of, difference_of}
 use Rattle.burst.specs.declared.mending.CorrectionError.{CorrectionError}
 use Rattle.burst.specs.declared.mending.CorrectionError.TheVariants.{Uncorrectable, UnknownSize}
-use Rattle.burst.specs.Search.{bits_of, set_of, first_burst}
+use Rattle.burst.specs.Search.{bits_of, first_burst}
 
 -- What a correction answers: the burst that it mended, or none where the check fits the bytes, or why there is no correction.
 abbrev pub Correction : Type 0
 Correction = Result (Option Burst) CorrectionError
 
--- what is made of a burst that was found, or not found
-abbrev pub by_burst : Option Burst → Correction
-by_burst (Some b) = Ok (Some b)
-by_burst None = Err Uncorrectable
-
--- what a correction answers at a difference: the check fits the bytes, or it goes by the first burst
+-- what a correction answers at a difference: the check fits the bytes, or it goes by the first burst, if one has the amount
 abbrev pub judged : SizeCode → ℕ → Correction
-judged size difference = cond (difference == 0) (Ok None) (by_burst (first_burst size difference))
+judged size difference = cond (difference == 0) (Ok None) (ok_or (option_map Some (first_burst size difference)) Uncorrectable)
 
 -- what a correction answers; where sectors do not come in this length, it is refused
 abbrev pub correction : Option SizeCode → List ℕ → List ℕ → Correction

@@ -1,8 +1,7 @@
 //! Mending a delivered ECC sector.
 ghost use Rattle.std.specs.Prelude.{◌≡◌, length};
 ghost use Rattle.sector.specs.Sizes.{size_with};
-ghost use Rattle.sector.specs.Bits.{inverted};
-ghost use Rattle.burst.specs.Search.{set_of};
+ghost use Rattle.sector.specs.Bits.{inverted, set_of};
 ghost use Rattle.burst.specs.Mending.{correction, mended, Restored};
 
 use super::search::find_burst;

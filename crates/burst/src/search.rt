@@ -1,6 +1,7 @@
 //! The search for the burst that a difference tells of.
 ghost use Rattle.std.specs.Prelude.{◌≡◌, ◌-◌, ◌/◌, ◌%◌, ◌^◌, cond, MatchOption, nat_eq, nat_lt};
-ghost use Rattle.check_code.specs.Code.{ecc_code, step, append, fold};
+ghost use Rattle.sector.specs.Bits.{binary, first_bits};
+ghost use Rattle.check_code.specs.Code.{ecc_code, step};
 ghost use Rattle.check_code.specs.Aligned.{steps};
 ghost use Rattle.burst.specs.Search.{bits_of, first_burst, NoneFits, Fits};
 
@@ -57,7 +58,7 @@ fn taken_back(difference: u32, size: SizeCode) -> u32
 // A pattern of five bits as the register sees it, its first bit at the top.
 #[tactic(auto, using(crate::proofs::Shift::mirror_is))]
 fn mirrored(pattern: u8) -> u32
-    ensures { result ≡ fold append 0 (λ j. pattern / 2 ^ j % 2) 5 }
+    ensures { result ≡ first_bits 5 (binary pattern) }
 {
     u32::from(pattern.reverse_bits() >> 3)
 }

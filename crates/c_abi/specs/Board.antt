@@ -1,10 +1,9 @@
 -- The board that C describes.
-use Rattle.std.specs.Prelude.{ℕ, cond, List, [], ◌∷◌, length, map, Some, None, Option, ◌==◌}
+use Rattle.std.specs.Prelude.{ℕ, cond, List, [], ◌∷◌, length, map, is_none, ◌==◌}
 use Rattle.drive.specs.declared.geometry.Geometry.{Geometry}
 use Rattle.drive.specs.Bounds.{Measures, measures}
 use Rattle.drive.specs.Model.{DriveModel}
 use Rattle.drive.specs.Empty.{empty_model}
-use Rattle.image.specs.declared.refusal.Refusal.{Refusal}
 use Rattle.image.specs.Image.{image_model, refusal_of}
 use Rattle.fault_table.specs.declared.entry.FaultEntry.{FaultEntry}
 use Rattle.fault_table.specs.declared.entry.FaultKind.{FaultKind}
@@ -36,14 +35,10 @@ entry_of f =
     }
 
 -- ---- drives
--- what a bay means where something stands against its image, or nothing does
-abbrev pub bay_by : Option Refusal → ImageMeasures → List ℕ → DriveModel
-bay_by None m memory = image_model m.cylinders m.heads m.capacity m.protected 0 memory
-bay_by (Some why) m memory = empty_model memory
-
--- what a bay means that an image of a make with these limits was made for
+-- what a bay means that an image of a make with these limits was made for; it is empty where the image is refused
 abbrev pub bay_model : Measures → ImageMeasures → List ℕ → DriveModel
-bay_model most m memory = bay_by (refusal_of most m.cylinders m.heads m.capacity (length memory)) m memory
+bay_model most m memory =
+    cond (is_none (refusal_of most (geometry_of m) (length memory))) (image_model (geometry_of m) m.protected 0 memory) (empty_model memory)
 
 -- the Winchester under its faults, the floppy, and a controller that is made now over both
 unfoldable pub board_model : ImageMeasures → List ℕ → List PlainFault → ImageMeasures → List ℕ → ControllerModel
@@ -57,5 +52,5 @@ unfoldable pub held : ControllerModel → Bay → List ℕ
 held b bay = (b.drives bay).memory
 
 -- others of the same number; where they are more or fewer, the old ones stay
-abbrev pub fitting : {A : Type 0} → List A → List A → List A
+unfoldable pub fitting : {A : Type 0} → List A → List A → List A
 fitting new old = cond (length new == length old) new old

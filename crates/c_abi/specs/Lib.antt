@@ -1,4 +1,3 @@
-pub mod Answers
 pub mod Board
+pub mod Rounds
 pub mod Runs
-pub mod Timed

@@ -1,5 +1,6 @@
 -- Calls as C gives them, and their answers as C is told them.
-use Rattle.std.specs.Prelude.{ℕ, cond, Bool, List, [], ◌∷◌, Some, None, Ok, Err, Option, ◌==◌}
+use Rattle.std.specs.Prelude.{ℕ, cond, Bool, List, [], ◌∷◌, map, Some, Ok, Err, ◌==◌}
+use Rattle.std.specs.Option.{unwrap_or}
 use Rattle.task_file.specs.declared.failure.Fault.{Fault}
 use Rattle.task_file.specs.Failures.{last_fault}
 use Rattle.task_file.specs.State.{is_busy, requests}
@@ -7,9 +8,11 @@ use Rattle.controller.specs.Access.{refusal_number}
 use Rattle.controller.specs.Model.{ControllerModel}
 use Rattle.controller.specs.declared.call.Call.{Call}
 use Rattle.controller.specs.declared.call.Call.TheVariants.{Read, Write, Turn, Reset}
-use Rattle.controller.specs.Runs.{Answer, answer_to, called}
+use Rattle.controller.specs.Runs.{Answer, answer_to, called, runs}
 use Rattle.c_abi.specs.declared.answers.PlainCall.{PlainCall}
 use Rattle.c_abi.specs.declared.answers.PlainAnswer.{PlainAnswer}
+use Rattle.c_abi.specs.declared.rounds.PlainRounds.{PlainRounds}
+use Rattle.c_abi.specs.Rounds.{rounds_of}
 
 -- a read, a write or a turn by its number, and by any other a master reset
 abbrev pub call_of : PlainCall → Call
@@ -24,13 +27,11 @@ refusal_in (Err why) = refusal_number why
 -- the byte that was read, or 0
 abbrev pub byte_in : Answer → ℕ
 byte_in (Ok (Some byte)) = byte
-byte_in (Ok None) = 0
-byte_in (Err why) = 0
+byte_in _ = 0
 
--- zeros where there is no last fault
-abbrev pub fault_or_zeros : Option Fault → Fault
-fault_or_zeros (Some f) = f
-fault_or_zeros None = record { layer = 0; error = 0; cylinder = 0; head = 0; number = 0; attempts = 0 }
+-- what stands for the last fault where there is none
+abbrev pub no_fault : Fault
+no_fault = record { layer = 0; error = 0; cylinder = 0; head = 0; number = 0; attempts = 0 }
 
 -- what C is told: the answer, DRQ, INTRQ and BUSY, and the last fault, with zeros where there is none
 abbrev pub told : Answer → Bool → Bool → Bool → Fault → PlainAnswer
@@ -51,15 +52,14 @@ told a drq intrq busy f =
 
 -- an answer, and what the controller shows once it is given
 abbrev pub shown : ControllerModel → Answer → PlainAnswer
-shown b a = told a (requests b.state.phase) b.state.intrq (is_busy b.state.phase) (fault_or_zeros (last_fault b.state.failure))
+shown b a = told a (requests b.state.phase) b.state.intrq (is_busy b.state.phase) (unwrap_or (last_fault b.state.failure) no_fault)
 
 -- ---- many calls
 -- what C is told of each
-unfoldable pub all_shown : ControllerModel → List PlainCall → List PlainAnswer
+unfoldable pub all_shown : ControllerModel → List Call → List PlainAnswer
 all_shown b [] = []
-all_shown b (c ∷ cs) = shown (called b (call_of c)) (answer_to b (call_of c)) ∷ all_shown (called b (call_of c)) cs
+all_shown b (c ∷ cs) = shown (called b c) (answer_to b c) ∷ all_shown (called b c) cs
 
--- where they lead
-unfoldable pub run_of : ControllerModel → List PlainCall → ControllerModel
-run_of b [] = b
-run_of b (c ∷ cs) = run_of (called b (call_of c)) cs
+-- where calls, and rounds after them, lead
+abbrev pub run_of : ControllerModel → List PlainCall → PlainRounds → ControllerModel
+run_of b calls asked = runs (runs b (map call_of calls)) (rounds_of asked)

@@ -1,11 +1,14 @@
-//! Lists of calls on a board, with every answer.
-ghost use Rattle.std.specs.Prelude.{◌≡◌, IfOk, if◌then◌else◌};
+//! Calls on a board, with every answer, and timed rounds after them.
+ghost use Rattle.std.specs.Prelude.{◌≡◌, map, IfOk, if◌then◌else◌};
 ghost use Rattle.controller.specs.Controller.{model_of};
+ghost use Rattle.controller.specs.Runs.{runs};
 ghost use Rattle.task_file.specs.declared.bay.Bay.TheVariants.{Winchester1, Floppy1};
 ghost use Rattle.c_abi.specs.Board.{board_model, held, fitting};
+ghost use Rattle.c_abi.specs.Rounds.{heard, rounds_of};
 ghost use Rattle.c_abi.specs.Runs.{call_of, shown, all_shown, run_of};
 
 use super::board::{ImageMeasures, PlainFault, board, give_back, replace};
+use super::rounds::{PlainRounds, rounds};
 use controller::{Answer, Call, Controller, make_call};
 use drive::Drive;
 use std::alloc::{AllocError, Global};
@@ -82,17 +85,18 @@ fn tell<D: Drive>(controller: &Controller<D>, answer: Answer) -> PlainAnswer
 }
 
 // Makes the calls, and tells of each.
-#[tactic(auto, using(crate::proofs::Shown::steps))]
+#[tactic(auto, using(std::proofs::lemmas::List::drop_more), // one call more
+unfolding(crate::specs::Runs::all_shown, controller::specs::Runs::runs))]
 fn all_answers<D: Drive>(
     controller: &mut Controller<D>,
     heap: Global,
     calls: &[PlainCall],
 ) -> Result<Vec<PlainAnswer>, AllocError>
     ensures answers { IfOk result
-        (λ v. v.items ≡ all_shown (model_of D.meaning controller.old) calls.now) }
+        (λ v. v.items ≡ all_shown (model_of D.meaning controller.old) (map call_of calls.now)) }
     ensures after { IfOk result
         (λ _. model_of D.meaning controller.new
-        ≡ run_of (model_of D.meaning controller.old) calls.now) }
+        ≡ runs (model_of D.meaning controller.old) (map call_of calls.now)) }
 {
     let mut answers = Vec::with_capacity(heap, calls.len())?;
     for call in calls {
@@ -102,8 +106,8 @@ fn all_answers<D: Drive>(
     Ok(answers)
 }
 
-/// Makes the calls on a board that is made now, over images with these bytes; false where memory is
-/// wanting.
+/// Makes calls, and then rounds, on a board that is made now over images with these bytes; false
+/// where memory is wanting. Tells of each call, and what is heard of the rounds.
 #[unsafe(no_mangle)]
 pub extern "C" fn disk_answers(
     heap: Global,
@@ -114,18 +118,24 @@ pub extern "C" fn disk_answers(
     faults: &[PlainFault],
     calls: &[PlainCall],
     answers: &mut [PlainAnswer],
+    asked: &PlainRounds,
+    sum: &mut u32,
 ) -> bool
     ensures answers { answers.new ≡ (if result
         then fitting (all_shown (board_model winchester.now winchester_bytes.old faults.now
-        floppy.now floppy_bytes.old) calls.now) answers.old
+        floppy.now floppy_bytes.old) (map call_of calls.now)) answers.old
         else answers.old) }
+    ensures sum { sum.new ≡ (if result
+        then heard (runs (board_model winchester.now winchester_bytes.old faults.now
+        floppy.now floppy_bytes.old) (map call_of calls.now)) 0 (rounds_of asked.now)
+        else sum.old) }
     ensures winchester { winchester_bytes.new ≡ (if result
         then fitting (held (run_of (board_model winchester.now winchester_bytes.old faults.now
-        floppy.now floppy_bytes.old) calls.now) Winchester1) winchester_bytes.old
+        floppy.now floppy_bytes.old) calls.now asked.now) Winchester1) winchester_bytes.old
         else winchester_bytes.old) }
     ensures floppy { floppy_bytes.new ≡ (if result
         then fitting (held (run_of (board_model winchester.now winchester_bytes.old faults.now
-        floppy.now floppy_bytes.old) calls.now) Floppy1) floppy_bytes.old
+        floppy.now floppy_bytes.old) calls.now asked.now) Floppy1) floppy_bytes.old
         else floppy_bytes.old) }
 {
     let made = board(
@@ -143,6 +153,7 @@ pub extern "C" fn disk_answers(
         return false;
     };
     replace(answers, &told);
+    *sum = rounds(&mut controller, *asked);
     give_back(controller, winchester_bytes, floppy_bytes);
     true
 }

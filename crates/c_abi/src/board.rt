@@ -4,8 +4,6 @@ ghost use Rattle.std.specs.Prelude.{◌≡◌, IfOk, [], length, map};
 ghost use Rattle.drive.specs.Bounds.{measures};
 ghost use Rattle.task_file.specs.declared.bay.Bay.TheVariants.{Winchester1, Floppy1};
 ghost use Rattle.controller.specs.Controller.{model_of};
-ghost use Rattle.fault_table.specs.Adding.{all_added};
-ghost use Rattle.fault_table.specs.Faults.{with_faults};
 ghost use Rattle.c_abi.specs.Board.{geometry_of, entry_of, bay_model, board_model, held, fitting};
 
 use controller::Controller;
@@ -94,15 +92,11 @@ fn bay<M: Make>(heap: Global, asked: ImageMeasures, bytes: &[u8]) -> Result<Fitt
     Ok(fitted(Image::<M>::new(asked.geometry(), asked.protected, memory)))
 }
 
-// The faults laid over a drive, as far as they are taken.
-fn lay<D: Drive>(table: &mut FaultTable<D>, faults: &[PlainFault])
-    ensures entries { table.new.faults.items
-        ≡ all_added table.old.faults.items (map entry_of faults.now) }
-    ensures drive { table.new.drive ≡ table.old.drive }
+// The entries that faults of C make.
+fn entries(heap: Global, faults: &[PlainFault]) -> Result<Vec<FaultEntry>, AllocError>
+    ensures { IfOk result (λ v. v.items ≡ map entry_of faults.now) }
 {
-    for fault in faults {
-        let _taken = table.add(fault.entry());
-    }
+    faults.iter().map(|fault| fault.entry()).collect(heap)
 }
 
 /// A board that is made now, over copies of the bytes.
@@ -119,12 +113,13 @@ pub fn board(
         ≡ board_model winchester winchester_bytes.now faults.now floppy floppy_bytes.now) }
 {
     let mut table = FaultTable::over(bay::<Winchester>(heap, winchester, winchester_bytes)?);
-    lay(&mut table, faults);
+    let _taken = table.add_all(&entries(heap, faults)?);
     let floppy = bay::<Floppy>(heap, floppy, floppy_bytes)?;
     Ok(Controller::new([Either::Left(table), Either::Right(floppy)]))
 }
 
 /// Puts others of the same number in the place of some items.
+#[tactic(auto, unfolding(crate::specs::Board::fitting))]
 pub fn replace<T: Copy>(items: &mut [T], by: &[T])
     ensures { items.new ≡ fitting by.now items.old }
 {

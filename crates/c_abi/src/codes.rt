@@ -1,9 +1,9 @@
 //! The check codes and the search for a burst.
 ghost use Rattle.std.specs.Prelude.{◌≡◌};
+ghost use Rattle.std.specs.Option.{option_map_or};
 ghost use Rattle.sector.specs.declared.size.SizeCode.TheVariants.{Bytes512};
 ghost use Rattle.check_code.specs.Code.{crc_code, ecc_code, check_of};
 ghost use Rattle.burst.specs.Search.{first_burst};
-ghost use Rattle.c_abi.specs.Answers.{first_bit};
 
 use burst::find_burst;
 use check_code::{CheckCode, Crc, Ecc, remainder};
@@ -29,7 +29,7 @@ pub extern "C" fn disk_ecc(bytes: &[u8]) -> u32
 /// none has it.
 #[unsafe(no_mangle)]
 pub extern "C" fn disk_burst(difference: u32) -> u16
-    ensures { result ≡ first_bit (first_burst Bytes512 difference) }
+    ensures { result ≡ option_map_or (λ b. b.first) (first_burst Bytes512 difference) 0xffff }
 {
     match find_burst(difference, SizeCode::Bytes512) {
         Some(burst) => burst.first,

@@ -1,4 +1,3 @@
-pub mod Fold
 pub mod Register
 pub mod Bytes
 pub mod Laws

@@ -6,8 +6,7 @@ use lib.Pow.{split}
 use Rattle.std.proofs.lemmas.Grind.{and_numeral}
 use Rattle.check_code.specs.Code.{Code}
 use Rattle.check_code.specs.Aligned.{steps, aligned}
-use Rattle.check_code.proofs.Fold.{shl_xor}
-use Rattle.check_code.proofs.Register.{steps_xor, steps_add, steps_small}
+use Rattle.check_code.proofs.Register.{shl_xor, steps_xor, steps_add, steps_small}
 
 -- what k shifts make of each of n bytes at the top of 32 bits, from the byte b on
 abbrev pub entries : Code → ℕ → ℕ → ℕ → List ℕ

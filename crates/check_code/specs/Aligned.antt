@@ -1,11 +1,11 @@
 -- A register that stands at the top of 32 bits, and a byte's worth of shifts.
-use Rattle.std.specs.Prelude.{ℕ, zero, suc, ◌-◌, ◌*◌, ◌^◌}
+use Rattle.std.specs.Prelude.{ℕ, ◌-◌, ◌*◌, ◌^◌}
+use Rattle.std.specs.Fn.{iterate}
 use Rattle.check_code.specs.Code.{Code, width, step}
 
 -- n shifts
 abbrev pub steps : Code → ℕ → ℕ → ℕ
-steps c zero v = v
-steps c (suc n) v = step c (steps c n v)
+steps c n v = iterate (step c) n v
 
 -- the same code with its register at the top of 32 bits
 abbrev pub aligned : Code → Code

@@ -1,4 +1,5 @@
 //! What the tests of the controller share: boards, and scripts whose steps are taken on them.
+use super::bytes::*;
 use check_code::{Crc, check_bytes};
 use controller::{Answer, Call, Controller, Lines, make_call};
 use drive::{Drive, EmptyBay, Geometry, Place};
@@ -43,39 +44,47 @@ pub enum Step {
     Turns(u16),
     /// A master reset.
     Reset,
-    /// Each access that is refused in a phase is refused, and leaves the lines as they were.
-    Refused(Refusals),
+    /// A master reset, and its Test on a ready drive.
+    ResetAndTest,
+    /// Each access that is refused in a phase, where a write has this byte, is refused, and leaves
+    /// the lines as they were.
+    Refused(u8, Refusals),
     /// DRQ and INTRQ are on or off.
     Lines(bool, bool),
-    /// The status is this byte and DRQ its bit 3; INTRQ is on or off before it is read, and off
-    /// after that.
+    /// The status is this byte, and DRQ its DATA_REQUEST; INTRQ is on or off before it is read, and
+    /// off after that.
     Status(u8, bool),
     /// The last fault, if there is one, has these numbers.
     Fault(Option<FaultNumbers>),
     /// After a master reset, each command of a row of COMMANDS that is given with this SDH, count
-    /// and cylinder leaves the status of that row: 80h where it runs, 58h where it takes bytes, and
-    /// an odd one where it is aborted.
+    /// and cylinder leaves the status of that row: BUSY where it runs, one with DATA_REQUEST where
+    /// it takes bytes, and one with FAILED where it is aborted.
     Statuses(u8, u8, u16, [u8; 8]),
 }
 
-/// By which refusal reads and writes of registers 0 to 8 are refused, or 0 where they are not. A
-/// write has FFh, which is no command.
-pub type Refusals = ([u8; 9], [u8; 9]);
+/// By which refusal reads and writes of the data register, of registers 1 to 6 and of register 7
+/// are refused, or 0 where they are not; those of BEYOND always are.
+pub type Refusals = ([u8; 3], [u8; 3]);
 
-// Test, Restore, Seek, Read, Write, Format, and Read and Write with L = 1.
-const COMMANDS: [&[u8]; 8] = [
-    &[0x90],
-    &[0x10, 0x1f],
-    &[0x70, 0x7f],
-    &[0x20, 0x24, 0x28, 0x2c],
-    &[0x30, 0x34],
-    &[0x50],
-    &[0x22, 0x26, 0x2a, 0x2e],
-    &[0x32, 0x36],
+/// Test, Restore, Seek, Read, Write, Format, and Read and Write with L = 1.
+pub const COMMANDS: [&[u8]; 8] = [
+    &[TEST],
+    &[RESTORE, RESTORE_LAST],
+    &[SEEK, SEEK_LAST],
+    &[READ, READ + MULTIPLE, READ + DMA, READ + DMA + MULTIPLE],
+    &[WRITE, WRITE + MULTIPLE],
+    &[FORMAT],
+    &[
+        READ + LONG,
+        READ + MULTIPLE + LONG,
+        READ + DMA + LONG,
+        READ + DMA + MULTIPLE + LONG,
+    ],
+    &[WRITE + LONG, WRITE + MULTIPLE + LONG],
 ];
 
-// What an aborted command leaves as the last fault.
-const ABORTED: FaultNumbers = (1, 4, 0, 0, 0, 0);
+/// What an aborted command leaves as the last fault.
+pub const ABORTION: FaultNumbers = (CONTROLLER, ABORTED, 0, 0, 0, 0);
 
 /// A script: its name, whether the drives are protected, and its steps.
 pub type Script<'a> = (&'a str, bool, &'a [Step]);
@@ -89,15 +98,20 @@ pub type Unit = Either<FaultTable<Fitted<WinchesterImage>>, Fitted<FloppyImage>>
 /// A controller over a Winchester and a floppy.
 pub type Board = Controller<Unit>;
 
+/// Where a track record has its check bytes, and its sectors' bytes.
+pub const CHECKS: usize = 130;
+
+pub const SECTORS: usize = 386;
+
 // Sector memory for an image of these measures, whose first track has sectors 255, 0, 1, 2, 3, 4, 5
 // and 6 of 128 zeros; 2 is marked bad.
 fn memory(rt: &impl Abort, heap: Global, geometry: Geometry) -> Result<Vec<u8>, Fail> {
     let mut memory = blank_memory(heap, geometry)?;
-    assert!(rt; memory.len() >= 386);
+    assert!(rt; memory.len() >= SECTORS);
     memory[0..2].copy_from_slice(&[8, 3]);
     memory[2..18].copy_from_slice(&[255, 0, 0, 0, 1, 0, 2, 0x80, 3, 0, 4, 0, 5, 0, 6, 0]);
     let zeros = check_bytes::<Crc>(&[0; 128]);
-    for check in memory[130..162].chunks_mut(4) {
+    for check in memory[CHECKS..CHECKS + 32].chunks_mut(4) {
         check.copy_from_slice(&zeros);
     }
     Ok(memory)
@@ -105,7 +119,7 @@ fn memory(rt: &impl Abort, heap: Global, geometry: Geometry) -> Result<Vec<u8>, 
 
 // The faults of the Winchester: cylinder, head, sector number, kind, the first of five wrong bits,
 // and attempts. Those at cylinder 1 are for tracks under ECC.
-const FLAWS: &[(u16, u8, u8, FaultKind, u16, u16)] = &[
+const FLAWS: [(u16, u8, u8, FaultKind, u16, u16); 18] = [
     (0, 0, 3, FaultKind::NoId, 0, 8),
     (0, 0, 4, FaultKind::WrongBits, 40, 9),
     (0, 0, 5, FaultKind::NoDataMark, 0, 9),
@@ -146,22 +160,18 @@ pub fn board(rt: &impl Abort, heap: Global, protected: bool) -> Result<Board, Fa
     let small = memory(rt, heap, FLOPPY)?;
     let winchester = fitted(WinchesterImage::new(WINCHESTER, protected, large));
     let floppy = fitted(FloppyImage::new(FLOPPY, protected, small));
+    let flaws = FLAWS.map(|(cylinder, head, number, kind, first, attempts)| FaultEntry {
+        place: Place {
+            cylinder,
+            head,
+            number,
+        },
+        kind,
+        burst: Burst { first, pattern: 31 },
+        attempts,
+    });
     let mut table = FaultTable::over(winchester);
-    for (cylinder, head, number, kind, first, attempts) in FLAWS {
-        let _ = table.add(FaultEntry {
-            place: Place {
-                cylinder: *cylinder,
-                head: *head,
-                number: *number,
-            },
-            kind: *kind,
-            burst: Burst {
-                first: *first,
-                pattern: 31,
-            },
-            attempts: *attempts,
-        });
-    }
+    assert_eq!(rt; table.add_all(&flaws), FLAWS.len());
     Ok(Controller::new([Either::Left(table), Either::Right(floppy)]))
 }
 
@@ -169,19 +179,6 @@ pub fn board(rt: &impl Abort, heap: Global, protected: bool) -> Result<Board, Fa
 pub fn empty_board(heap: Global) -> Controller<EmptyBay> {
     let empty = || EmptyBay::new(Vec::new(heap));
     Controller::new([empty(), empty()])
-}
-
-// The fault of these numbers.
-fn fault_of(numbers: FaultNumbers) -> Fault {
-    let (layer, error, cylinder, head, number, attempts) = numbers;
-    Fault {
-        layer,
-        error,
-        cylinder,
-        head,
-        number,
-        attempts,
-    }
 }
 
 // Where a test stands: its script, and the number of the step that is taken.
@@ -244,15 +241,21 @@ impl<'a, R: Abort, D: Drive> Bench<'a, R, D> {
         assert_eq!(self.rt; answer, Err(why), "{}", self.at);
     }
 
-    // Makes each of these accesses that is refused.
-    fn refusals(&mut self, (reads, writes): Refusals) {
+    // Makes each of these accesses that is refused; a write has this byte.
+    fn refusals(&mut self, byte: u8, (reads, writes): Refusals) {
         let lines = self.board.lines();
-        for (number, (read, write)) in (0..9u8).zip(reads.into_iter().zip(writes)) {
-            if read != 0 {
-                self.refused(Call::Read(number), read);
+        for number in DATA..=BEYOND {
+            let why = |[data, kept, last]: [u8; 3]| match number {
+                DATA => data,
+                STATUS => last,
+                BEYOND => NO_REGISTER,
+                _ => kept,
+            };
+            if why(reads) != 0 {
+                self.refused(Call::Read(number), why(reads));
             }
-            if write != 0 {
-                self.refused(Call::Write(number, 0xff), write);
+            if why(writes) != 0 {
+                self.refused(Call::Write(number, byte), why(writes));
             }
         }
         assert_eq!(self.rt; self.board.lines(), lines, "{}", self.at);
@@ -260,7 +263,7 @@ impl<'a, R: Abort, D: Drive> Bench<'a, R, D> {
 
     // Reads registers 2 to 6.
     fn read_registers(&mut self, bytes: [u8; 5]) {
-        for (number, byte) in (2..7u8).zip(bytes) {
+        for (number, byte) in (COUNT..=SDH).zip(bytes) {
             self.call(Call::Read(number), Ok(Some(byte)));
         }
     }
@@ -277,27 +280,45 @@ impl<'a, R: Abort, D: Drive> Bench<'a, R, D> {
 
     // Looks at the lines, and reads the status.
     fn read_status(&mut self, byte: u8, intrq: bool) {
-        let drq = byte / 8 % 2 == 1;
+        let drq = byte & DATA_REQUEST != 0;
         self.lines(drq, intrq);
-        self.call(Call::Read(7), Ok(Some(byte)));
+        self.call(Call::Read(STATUS), Ok(Some(byte)));
         self.lines(drq, false);
+    }
+
+    // Resets the board, and sees Test through.
+    fn reset_and_test(&mut self) {
+        self.call(Call::Reset, Ok(None));
+        self.read_status(BUSY, false);
+        self.turns(1);
+        self.read_status(READY, true);
     }
 
     // Looks at the last fault.
     fn last_fault(&self, fault: Option<FaultNumbers>) {
-        assert_eq!(self.rt; self.board.last_fault(), fault.map(fault_of), "{}", self.at);
+        let numbers = |of: Fault| {
+            (
+                of.layer,
+                of.error,
+                of.cylinder,
+                of.head,
+                of.number,
+                of.attempts,
+            )
+        };
+        assert_eq!(self.rt; self.board.last_fault().map(numbers), fault, "{}", self.at);
     }
 
     // Gives a command.
     fn give(&mut self, command: u8) {
-        self.call(Call::Write(7, command), Ok(None));
+        self.call(Call::Write(COMMAND, command), Ok(None));
     }
 
     // Resets the board, and gives a command with these registers.
     fn give_anew(&mut self, registers: [u8; 5], command: u8) {
         self.board.master_reset();
         self.board.turn();
-        for (number, byte) in (2..7u8).zip(registers) {
+        for (number, byte) in (COUNT..=SDH).zip(registers) {
             self.call(Call::Write(number, byte), Ok(None));
         }
         self.give(command);
@@ -305,11 +326,11 @@ impl<'a, R: Abort, D: Drive> Bench<'a, R, D> {
 
     // What shows after a command that left these registers and this status.
     fn has_left(&mut self, registers: [u8; 5], status: u8) {
-        let aborted = status % 2 == 1;
-        self.last_fault(aborted.then_some(ABORTED));
-        if status != 0x80 {
-            let error = if aborted { 4 } else { 0 };
-            self.call(Call::Read(1), Ok(Some(error)));
+        let aborted = status & FAILED != 0;
+        self.last_fault(aborted.then_some(ABORTION));
+        if status != BUSY {
+            let error = if aborted { ABORTED } else { 0 };
+            self.call(Call::Read(ERROR), Ok(Some(error)));
             self.read_registers(registers);
         }
         self.read_status(status, aborted);
@@ -321,7 +342,7 @@ impl<'a, R: Abort, D: Drive> Bench<'a, R, D> {
         let [high, low] = cylinder.to_be_bytes();
         self.give_anew([count, 9, low, high, sdh], command);
         let left = match command {
-            0x10..=0x1f => [count, 9, 0, 0, sdh],
+            RESTORE..=RESTORE_LAST => [count, 9, 0, 0, sdh],
             _ => [count, 9, low, high, sdh],
         };
         self.has_left(left, status);
@@ -344,8 +365,8 @@ impl<'a, R: Abort, D: Drive> Bench<'a, R, D> {
             Step::NoRead(number, why) => self.refused(Call::Read(number), why),
             Step::NoWrite(number, byte, why) => self.refused(Call::Write(number, byte), why),
             Step::Registers(bytes) => self.read_registers(bytes),
-            Step::Draw(byte, times) => self.call_often(Call::Read(0), Ok(Some(byte)), times),
-            Step::Give(byte, times) => self.call_often(Call::Write(0, byte), Ok(None), times),
+            Step::Draw(byte, times) => self.call_often(Call::Read(DATA), Ok(Some(byte)), times),
+            Step::Give(byte, times) => self.call_often(Call::Write(DATA, byte), Ok(None), times),
             Step::Run(command, count) => {
                 self.give(command);
                 self.turns(count);
@@ -353,7 +374,8 @@ impl<'a, R: Abort, D: Drive> Bench<'a, R, D> {
             Step::Turn => self.call(Call::Turn, Ok(None)),
             Step::Turns(count) => self.turns(count),
             Step::Reset => self.call(Call::Reset, Ok(None)),
-            Step::Refused(refusals) => self.refusals(refusals),
+            Step::ResetAndTest => self.reset_and_test(),
+            Step::Refused(byte, refusals) => self.refusals(byte, refusals),
             Step::Lines(drq, intrq) => self.lines(drq, intrq),
             Step::Status(byte, intrq) => self.read_status(byte, intrq),
             Step::Fault(fault) => self.last_fault(fault),

@@ -15,14 +15,8 @@ const DRIVES: [(Bay, u8, Geometry); BAYS] = [
 fn bays(rt: HostRuntime) -> Result<(), Fail> {
     let drives = board(&rt, rt.alloc(), false)?.into_drives();
     for (bay, number, geometry) in DRIVES {
-        let drive = &drives[bay.index()];
-        let measures = Geometry {
-            cylinders: drive.cylinders(),
-            heads: drive.heads(),
-            capacity: drive.capacity(),
-        };
         assert_eq!(rt; u8::from(bay), number);
-        assert_eq!(rt; measures, geometry, "bay {number}");
+        assert_eq!(rt; drives[bay.index()].geometry(), geometry, "bay {number}");
     }
     Ok(())
 }

@@ -1,9 +1,10 @@
 //! A history: a list of calls with every answer, on a controller that stands, and on one that is
 //! made for it.
 use super::bench::empty_board;
+use super::bytes::*;
 use controller::{Answer, Call, Controller, Refusal};
 use drive::EmptyBay;
-use histories::{finish, run};
+use histories::{finish, make_calls};
 use round_trip::run_anew;
 use std::alloc::{AllocError, Global};
 use std::process::Abort;
@@ -12,24 +13,24 @@ use std::test::Fail;
 // Calls and their answers, from the making of a controller without drives to a Test that is under
 // way.
 const HISTORY: &[(Call, Answer)] = &[
-    (Call::Read(7), Ok(Some(0x80))),
-    (Call::Read(3), Err(Refusal::Busy)),
-    (Call::Write(3, 1), Err(Refusal::Busy)),
+    (Call::Read(STATUS), Ok(Some(BUSY))),
+    (Call::Read(NUMBER), Err(Refusal::Busy)),
+    (Call::Write(NUMBER, 1), Err(Refusal::Busy)),
     (Call::Turn, Ok(None)),
-    (Call::Read(7), Ok(Some(0x00))),
-    (Call::Read(8), Err(Refusal::NoRegister)),
-    (Call::Write(3, 1), Ok(None)),
-    (Call::Read(0), Err(Refusal::NoDataRequest)),
-    (Call::Write(7, 0xff), Err(Refusal::NoCommand)),
-    (Call::Write(7, 0x70), Ok(None)),
-    (Call::Read(1), Ok(Some(0x04))),
-    (Call::Read(7), Ok(Some(0x01))),
-    (Call::Read(3), Ok(Some(1))),
+    (Call::Read(STATUS), Ok(Some(0))),
+    (Call::Read(BEYOND), Err(Refusal::NoRegister)),
+    (Call::Write(NUMBER, 1), Ok(None)),
+    (Call::Read(DATA), Err(Refusal::NoDataRequest)),
+    (Call::Write(COMMAND, UNKNOWN), Err(Refusal::NoCommand)),
+    (Call::Write(COMMAND, SEEK), Ok(None)),
+    (Call::Read(ERROR), Ok(Some(ABORTED))),
+    (Call::Read(STATUS), Ok(Some(FAILED))),
+    (Call::Read(NUMBER), Ok(Some(1))),
     (Call::Reset, Ok(None)),
-    (Call::Read(7), Ok(Some(0x80))),
+    (Call::Read(STATUS), Ok(Some(BUSY))),
     (Call::Turn, Ok(None)),
-    (Call::Read(3), Ok(Some(0))),
-    (Call::Write(7, 0x90), Ok(None)),
+    (Call::Read(NUMBER), Ok(Some(0))),
+    (Call::Write(COMMAND, TEST), Ok(None)),
 ];
 
 // The calls of HISTORY.
@@ -56,7 +57,7 @@ fn has_answered(rt: &impl Abort, mut controller: Controller<EmptyBay>, answers: 
 #[test]
 fn a_history(rt: HostRuntime) -> Result<(), Fail> {
     let mut controller = empty_board(rt.alloc());
-    let answers = run(&mut controller, rt.alloc(), &calls(rt.alloc())?)?;
+    let answers = make_calls(&mut controller, rt.alloc(), &calls(rt.alloc())?)?;
     has_answered(&rt, controller, &answers);
     Ok(())
 }

@@ -1,5 +1,6 @@
 //! The sector memory that comes back of a controller's drives.
-use super::bench::{Bench, Fitted, Step, Unit, board};
+use super::bench::{Bench, CHECKS, Fitted, SECTORS, Step, Unit, WINCHESTER, board};
+use super::bytes::*;
 use either::Either;
 use image::{Image, Make};
 use std::process::Abort;
@@ -8,23 +9,23 @@ use std::test::Fail;
 // Writes sector 255 of both drives, and formats track 0 of cylinder 1 of the Winchester.
 const KEPT: &[Step] = &[
     Step::Turns(1),
-    Step::Write(3, 255),
-    Step::Write(6, 0x60),
-    Step::Write(7, 0x30),
+    Step::Write(NUMBER, 255),
+    Step::Write(SDH, CRC_128),
+    Step::Write(COMMAND, WRITE),
     Step::Give(0xa5, 128),
     Step::Turns(1),
-    Step::Write(6, 0x78),
-    Step::Write(7, 0x30),
+    Step::Write(SDH, FLOPPY_CRC_128),
+    Step::Write(COMMAND, WRITE),
     Step::Give(0x3c, 128),
     Step::Turns(1),
-    Step::Write(2, 1),
-    Step::Write(4, 1),
-    Step::Write(6, 0x60),
-    Step::Write(7, 0x50),
+    Step::Write(COUNT, 1),
+    Step::Write(CYLINDER_LOW, 1),
+    Step::Write(SDH, CRC_128),
+    Step::Write(COMMAND, FORMAT),
     Step::Give(0x80, 1),
     Step::Give(9, 127),
     Step::Turns(2),
-    Step::Status(0x50, true),
+    Step::Status(READY, true),
 ];
 
 // The memory of an image, or of one that was refused.
@@ -43,36 +44,39 @@ fn memory_of(unit: Unit) -> Vec<u8> {
     }
 }
 
+// Where the third track record of the Winchester begins.
+const THIRD: usize = 2 * (SECTORS + WINCHESTER.capacity as usize);
+
 // What the sector memories have once KEPT is played: a byte's place, and the byte. A track record
-// begins with a count, a size code and pairs of number and mark; check bytes follow from 130 on,
-// and the sectors' bytes from 386 on.
+// begins with a count, a size code and pairs of number and mark; check bytes and the sectors' bytes
+// follow.
 const WINCHESTER_MEMORY: &[(usize, u8)] = &[
     (0, 8),
     (1, 3),
     (2, 255),
     (3, 0),
-    (130, 0xb8),
-    (131, 0xe2),
-    (132, 0),
-    (133, 0),
-    (386, 0xa5),
-    (513, 0xa5),
-    (514, 0),
-    // the track of cylinder 1 and head 0, which is the third
-    (66_308, 1),
-    (66_309, 3),
-    (66_310, 9),
-    (66_311, 0x80),
-    (66_694, 0),
+    (CHECKS, 0xb8),
+    (CHECKS + 1, 0xe2),
+    (CHECKS + 2, 0),
+    (CHECKS + 3, 0),
+    (SECTORS, 0xa5),
+    (SECTORS + 127, 0xa5),
+    (SECTORS + 128, 0),
+    // the track of cylinder 1 and head 0
+    (THIRD, 1),
+    (THIRD + 1, 3),
+    (THIRD + 2, 9),
+    (THIRD + 3, 0x80),
+    (THIRD + SECTORS, 0),
 ];
 
 const FLOPPY_MEMORY: &[(usize, u8)] = &[
-    (130, 0x38),
-    (131, 0xf1),
-    (132, 0),
-    (386, 0x3c),
-    (513, 0x3c),
-    (514, 0),
+    (CHECKS, 0x38),
+    (CHECKS + 1, 0xf1),
+    (CHECKS + 2, 0),
+    (SECTORS, 0x3c),
+    (SECTORS + 127, 0x3c),
+    (SECTORS + 128, 0),
 ];
 
 // A memory has these bytes.

@@ -5,6 +5,8 @@
 #[cfg(test)]
 mod bench;
 #[cfg(test)]
+mod bytes;
+#[cfg(test)]
 mod controller_access;
 #[cfg(test)]
 mod controller_amid;

@@ -8,12 +8,12 @@ use Rattle.drive.specs.Model.{DriveModel}
 use Rattle.drive.specs.Bounds.{Limits, Bounded, Measures, ADrive}
 use Rattle.drive.specs.Empty.{empty_model}
 use Rattle.task_file.specs.declared.bay.Bay.{Bay}
-use Rattle.task_file.specs.declared.bay.Selection.{Selection}
+use Rattle.task_file.specs.declared.sdh.Selection.{Selection}
 use Rattle.task_file.specs.declared.state.Job.{Job}
 use Rattle.task_file.specs.declared.state.Phase.TheVariants.{Busy}
 use Rattle.task_file.specs.declared.state.State.{State}
 use Rattle.task_file.specs.Bays.{bay_index, same_bay}
-use Rattle.task_file.specs.Registers.{selected}
+use Rattle.task_file.specs.Sdh.{selected}
 use Rattle.task_file.specs.State.{fresh}
 use Rattle.controller.specs.Turns.{Turned, turned, worked}
 use Rattle.controller.specs.Model.{ControllerModel, drives_of, model, with_drive, after_turn, turned_in}

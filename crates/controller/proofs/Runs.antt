@@ -1,9 +1,9 @@
 -- Runs one after another, and what one call more adds to a run.
-use Rattle.std.proofs.Common.{◌≡◌, ℕ, ◌+◌, ◌<◌, List, [], ◌∷◌, ◌++◌, length, get_or, take, refl, ap, ◌∙◌}
+use Rattle.std.proofs.Common.{◌≡◌, ℕ, ◌+◌, ◌<◌, List, [], ◌∷◌, ◌++◌, length, get_or, take, refl, sym, ap, ◌∙◌}
 use Rattle.std.proofs.lemmas.List.{take_more}
 use Rattle.controller.specs.Model.{ControllerModel}
 use Rattle.controller.specs.declared.call.Call.{Call}
-use Rattle.controller.specs.Runs.{answer_to, called, runs, answers}
+use Rattle.controller.specs.Runs.{Answer, answer_to, called, runs, answers, Ran}
 
 -- a run of two lists is a run of the first and then of the second
 pub runs_joined : (b : ControllerModel) (cs ds : List Call) → runs b (cs ++ ds) ≡ runs (runs b cs) ds
@@ -15,6 +15,11 @@ pub answers_joined : (b : ControllerModel) (cs ds : List Call) → answers b (cs
 unfolding runs answers
 answers_joined b [] ds = refl
 answers_joined b (c ∷ cs) ds = ap (λ r. answer_to b c ∷ r) (answers_joined (called b c) cs ds)
+
+-- the answers, and where the calls lead, tell all of it
+pub ran : (before : ControllerModel) (calls : List Call) (given : List Answer) (after : ControllerModel) → given ≡ answers before calls → after ≡ runs before calls → Ran before calls given after
+ran before calls given after are leads =
+    record { answers_are = are; leads = leads; continues = λ new is_new history led. runs_joined new history calls ∙ ap (λ b. runs b calls) led ∙ sym leads }
 
 -- no call, and one call more
 pub runs_none : (b : ControllerModel) → runs b [] ≡ b

@@ -5,16 +5,16 @@ use Rattle.task_file.specs.declared.registers.Register.{Register}
 use Rattle.task_file.specs.declared.registers.Register.TheVariants as register
 use Rattle.task_file.specs.declared.command.Command.{Command}
 use Rattle.task_file.specs.declared.state.Phase.{Phase}
-use Rattle.task_file.specs.declared.state.Phase.TheVariants.{Rest, Busy, Offering, Taking}
+use Rattle.task_file.specs.declared.state.Phase.TheVariants.{Offering, Taking}
 use Rattle.task_file.specs.declared.state.State.{State}
 use Rattle.task_file.specs.declared.view.DriveView.{DriveView}
 use Rattle.task_file.specs.Registers.{register_number, register_numbered, stored}
 use Rattle.task_file.specs.Commands.{command_of}
 use Rattle.task_file.specs.Failures.{error_byte}
-use Rattle.task_file.specs.State.{with_registers, with_intrq, is_busy, requests}
+use Rattle.task_file.specs.State.{is_busy, requests}
 use Rattle.task_file.specs.Beginning.{begun}
 use Rattle.task_file.specs.Status.{status_of}
-use Rattle.task_file.specs.Moving.{offered_in, drawn_in, put_in}
+use Rattle.task_file.specs.Moving.{offered, drawn, put}
 use Rattle.controller.specs.declared.access.Refusal.{Refusal}
 use Rattle.controller.specs.declared.access.Refusal.TheVariants as refusal
 
@@ -36,17 +36,13 @@ is_status r = register_number r == 7
 
 -- DRQ is on, towards the host
 abbrev pub offers : Phase → Bool
-offers Rest = false
-offers (Busy j) = false
 offers (Offering m at) = true
-offers (Taking l at) = false
+offers p = false
 
 -- DRQ is on, from the host
 abbrev pub takes : Phase → Bool
-takes Rest = false
-takes (Busy j) = false
-takes (Offering m at) = false
 takes (Taking l at) = true
+takes p = false
 
 -- ---- the rules, asked one after another; before them the register has to exist
 -- a read: BUSY is off or it is a status read; of data, DRQ is on towards the host
@@ -85,25 +81,20 @@ at_register (Some r) none some = some r
 -- ---- reads
 -- the byte that a read gives
 abbrev pub read_byte : State → Option DriveView → Register → ℕ
-read_byte s v register.Data = offered_in s.phase s
+read_byte s v register.Data = offered s
 read_byte s v register.Error = error_byte s.failure
 read_byte s v register.Count = s.registers.count
 read_byte s v register.Number = s.registers.number
-read_byte s v register.Low = s.registers.low
-read_byte s v register.High = s.registers.high
+read_byte s v register.CylinderLow = s.registers.cylinder_low
+read_byte s v register.CylinderHigh = s.registers.cylinder_high
 read_byte s v register.Sdh = s.registers.sdh
 read_byte s v register.Status = status_of s v
 
 -- what a read leaves: data go out one by one, and reading the status turns INTRQ off
 abbrev pub read_effect : State → Register → State
-read_effect s register.Data = drawn_in s.phase s
-read_effect s register.Error = s
-read_effect s register.Count = s
-read_effect s register.Number = s
-read_effect s register.Low = s
-read_effect s register.High = s
-read_effect s register.Sdh = s
-read_effect s register.Status = with_intrq s false
+read_effect s register.Data = drawn s
+read_effect s register.Status = record s { intrq = false }
+read_effect s r = s
 
 -- what a read of register n answers: the first rule that stands against it, or the byte
 unfoldable pub read_answer_of : State → Option DriveView → ℕ → Result ℕ Refusal
@@ -122,14 +113,9 @@ begun_by (Some c) s v = begun s c v
 
 -- what a write leaves: data are taken one by one, a command begins, any other byte is kept or dropped
 abbrev pub write_effect : State → Option DriveView → Register → ℕ → State
-write_effect s v register.Data byte = put_in s.phase s byte
-write_effect s v register.Error byte = s
-write_effect s v register.Count byte = with_registers s (stored s.registers register.Count byte)
-write_effect s v register.Number byte = with_registers s (stored s.registers register.Number byte)
-write_effect s v register.Low byte = with_registers s (stored s.registers register.Low byte)
-write_effect s v register.High byte = with_registers s (stored s.registers register.High byte)
-write_effect s v register.Sdh byte = with_registers s (stored s.registers register.Sdh byte)
+write_effect s v register.Data byte = put s byte
 write_effect s v register.Status byte = begun_by (command_of byte) s v
+write_effect s v r byte = record s { registers = stored s.registers r byte }
 
 -- what a write to register n answers: the first rule that stands against it, or that it is done
 unfoldable pub write_answer_of : State → ℕ → ℕ → Result (Unit {0}) Refusal

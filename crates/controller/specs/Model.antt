@@ -1,15 +1,16 @@
 -- The controller with what its drives mean, and what each access, turn and reset answers and leaves.
 use Rattle.std.specs.Prelude.{ℕ, cond, List, [], map, Some, None, Option, Result, slice_index_or}
+use Rattle.std.specs.Option.{option_map}
 use Rattle.drive.specs.Model.{DriveModel}
 use Rattle.drive.specs.Empty.{empty_model}
 use Rattle.task_file.specs.declared.bay.Bay.{Bay}
-use Rattle.task_file.specs.declared.bay.Selection.{Selection}
+use Rattle.task_file.specs.declared.sdh.Selection.{Selection}
 use Rattle.task_file.specs.declared.state.Phase.{Phase}
-use Rattle.task_file.specs.declared.state.Phase.TheVariants.{Rest, Busy, Offering, Taking}
+use Rattle.task_file.specs.declared.state.Phase.TheVariants.{Busy}
 use Rattle.task_file.specs.declared.state.State.{State}
 use Rattle.task_file.specs.declared.view.DriveView.{DriveView}
 use Rattle.task_file.specs.Bays.{bay_index, same_bay}
-use Rattle.task_file.specs.Registers.{selected}
+use Rattle.task_file.specs.Sdh.{selected}
 use Rattle.task_file.specs.State.{fresh, reset, requests}
 use Rattle.controller.specs.declared.access.Refusal.{Refusal}
 use Rattle.controller.specs.declared.access.Lines.{Lines}
@@ -29,10 +30,6 @@ drives_of meaning drives bay = slice_index_or (map meaning drives) (bay_index ba
 abbrev pub model : {D : Type 0} → (D → DriveModel) → State → List D → ControllerModel
 model meaning s drives = record { state = s; drives = drives_of meaning drives }
 
--- with another state; the drives stay
-abbrev pub with_state : ControllerModel → State → ControllerModel
-with_state b s = record { state = s; drives = b.drives }
-
 -- with another state, and another drive in one bay
 abbrev pub with_drive : ControllerModel → State → Bay → DriveModel → ControllerModel
 with_drive b s bay d = record { state = s; drives = λ other. cond (same_bay other bay) d (b.drives other) }
@@ -44,24 +41,15 @@ made drives = record { state = fresh; drives = drives }
 -- ---- questions
 -- what is seen of a drive by what SDH selects
 abbrev pub view_of : Selection → DriveModel → DriveView
-view_of at d =
-    record {
-      at = at;
-      ready = d.ready;
-      protected = d.protected;
-      cylinders = d.cylinders;
-      heads = d.heads;
-      capacity = d.capacity;
-    }
+view_of at d = record { at = at; ready = d.ready; protected = d.protected; geometry = d.geometry }
 
 -- what is seen of the drive that a selection names
-abbrev pub seen_at : Option Selection → ControllerModel → Option DriveView
-seen_at (Some at) b = Some (view_of at (b.drives at.bay))
-seen_at None b = None
+abbrev pub seen_at : ControllerModel → Selection → DriveView
+seen_at b at = view_of at (b.drives at.bay)
 
 -- what is seen of the drive that SDH selects, if it selects one
 abbrev pub seen : ControllerModel → Option DriveView
-seen b = seen_at (selected b.state.registers.sdh) b
+seen b = option_map (seen_at b) (selected b.state.registers.sdh)
 
 -- the two lines
 abbrev pub lines_of : State → Lines
@@ -74,7 +62,7 @@ read_answered b n = read_answer_of b.state (seen b) n
 
 -- what a register read leaves
 abbrev pub after_register_read : ControllerModel → ℕ → ControllerModel
-after_register_read b n = with_state b (state_after_read b.state n)
+after_register_read b n = record b { state = state_after_read b.state n }
 
 -- what a register write answers
 abbrev pub write_answered : ControllerModel → ℕ → ℕ → Result (Unit {0}) Refusal
@@ -82,15 +70,13 @@ write_answered b n byte = write_answer_of b.state n byte
 
 -- what a register write leaves
 abbrev pub after_register_write : ControllerModel → ℕ → ℕ → ControllerModel
-after_register_write b n byte = with_state b (state_after_write b.state (seen b) n byte)
+after_register_write b n byte = record b { state = state_after_write b.state (seen b) n byte }
 
 -- a turn: at rest and while bytes move it does nothing
 abbrev pub turned_in : Phase → Option Selection → ControllerModel → ControllerModel
-turned_in Rest sel b = b
 turned_in (Busy j) (Some at) b = let t = worked j b.state at (b.drives at.bay) in with_drive b t.state at.bay t.drive
-turned_in (Busy j) None b = with_state b (without_drive j b.state)
-turned_in (Offering m at) sel b = b
-turned_in (Taking l at) sel b = b
+turned_in (Busy j) None b = record b { state = without_drive j b.state }
+turned_in p sel b = b
 
 -- a turn in the phase and on the drive of now
 abbrev pub after_turn : ControllerModel → ControllerModel
@@ -98,4 +84,4 @@ after_turn b = turned_in b.state.phase (selected b.state.registers.sdh) b
 
 -- a master reset
 abbrev pub after_reset : ControllerModel → ControllerModel
-after_reset b = with_state b (reset b.state)
+after_reset b = record b { state = reset b.state }

@@ -73,3 +73,9 @@ pub record Reached (b : ControllerModel) : Type 0 where
 abbrev pub Continues : ControllerModel → List Call → ControllerModel → Type 0
 Continues before calls after =
     (new : ControllerModel) → IsNew new → (history : List Call) → runs new history ≡ before → runs new (history ++ calls) ≡ after
+
+-- What calls that were made tell: every answer, where they lead, and that they continue each history that led to where they begin.
+pub record Ran (before : ControllerModel) (calls : List Call) (given : List Answer) (after : ControllerModel) : Type 0 where
+  pub answers_are : given ≡ answers before calls
+  pub leads : after ≡ runs before calls
+  pub continues : Continues before calls after

@@ -3,7 +3,7 @@ use Rattle.std.specs.Prelude.{ℕ, ◌+◌, min, cond, List, ◌==◌, nat_lt}
 use Rattle.drive.specs.declared.answers.SectorId.{SectorId}
 use Rattle.drive.specs.Model.{DriveModel}
 use Rattle.drive.specs.Calls.{stepped_out, nearer, read_answer, handed_over, after_read, write_answer, after_write, format_answer, after_format}
-use Rattle.task_file.specs.declared.bay.Selection.{Selection}
+use Rattle.task_file.specs.declared.sdh.Selection.{Selection}
 use Rattle.task_file.specs.declared.failure.Failure.TheVariants.{Aborted, TrackZero}
 use Rattle.task_file.specs.declared.state.ReadJob.{ReadJob}
 use Rattle.task_file.specs.declared.state.WriteJob.{WriteJob}
@@ -11,9 +11,11 @@ use Rattle.task_file.specs.declared.state.Job.{Job}
 use Rattle.task_file.specs.declared.state.Job.TheVariants.{Test, Restore, Seek, Read, Write, Format}
 use Rattle.task_file.specs.declared.state.Phase.TheVariants.{Busy}
 use Rattle.task_file.specs.declared.state.State.{State}
-use Rattle.task_file.specs.Registers.{cylinder_of, size_at, mode_at, sector_count}
-use Rattle.task_file.specs.State.{with_phase, with_buffer, ended, failed}
-use Rattle.task_file.specs.Attempts.{read_judged, write_judged, ids_of, zero_check, format_judged}
+use Rattle.task_file.specs.Registers.{cylinder_of, sector_count}
+use Rattle.task_file.specs.Sdh.{size_at, mode_at}
+use Rattle.task_file.specs.State.{ended, failed}
+use Rattle.task_file.specs.Attempts.{read_judged, write_judged, zero_check, format_judged}
+use Rattle.task_file.specs.Pairs.{ids_of}
 
 -- what a turn leaves of the state and of the selected drive
 pub record Turned : Type 0 where
@@ -28,7 +30,7 @@ turned s d = record { state = s; drive = d }
 abbrev pub restore_turn : State → ℕ → DriveModel → Turned
 restore_turn s steps d =
     cond (d.cylinder == 0) (turned (ended s) d)
-    (cond (nat_lt steps 1024) (turned (with_phase s (Busy (Restore (steps + 1)))) (stepped_out d)) (turned (failed s TrackZero) d))
+    (cond (nat_lt steps 1024) (turned (record s { phase = Busy (Restore (steps + 1)) }) (stepped_out d)) (turned (failed s TrackZero) d))
 
 -- a step toward the registers' cylinder, and on the turn that finds it the act
 abbrev pub once_there : State → DriveModel → Turned → Turned
@@ -40,7 +42,7 @@ abbrev pub read_act : State → ReadJob → Selection → DriveModel → Turned
 read_act s j at d =
     turned
     (read_judged (read_answer d at.head s.registers.number (size_at s.registers.sdh))
-    (with_buffer s (handed_over d at.head s.registers.number (size_at s.registers.sdh) s.buffer)) j at)
+    (record s { buffer = handed_over d at.head s.registers.number (size_at s.registers.sdh) s.buffer }) j at)
     (after_read d at.head s.registers.number)
 
 -- a write attempt at it, with what the buffer has
@@ -74,8 +76,4 @@ worked Format s at d = once_there s d (format_act s at d)
 -- where no drive is selected, Test ends; any other job is aborted, which no history meets
 abbrev pub without_drive : Job → State → State
 without_drive Test s = ended s
-without_drive (Restore steps) s = failed s Aborted
-without_drive Seek s = failed s Aborted
-without_drive (Read j) s = failed s Aborted
-without_drive (Write j) s = failed s Aborted
-without_drive Format s = failed s Aborted
+without_drive j s = failed s Aborted

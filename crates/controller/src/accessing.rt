@@ -2,11 +2,10 @@
 ghost use Rattle.std.specs.Prelude.{◌≡◌, false};
 ghost use Rattle.task_file.specs.declared.registers.Register.TheVariants.{Status};
 ghost use Rattle.task_file.specs.Commands.{command_of};
-ghost use Rattle.task_file.specs.State.{with_intrq};
 ghost use Rattle.task_file.specs.Status.{status_of};
 ghost use Rattle.controller.specs.Access.{answered, begun_by, command_refusal};
 ghost use Rattle.controller.specs.Model.{model, seen, read_answered, after_register_read, write_answered, after_register_write};
-ghost use Rattle.controller.specs.Controller.{model_of};
+ghost use Rattle.controller.specs.Controller.{drives_in, model_of};
 
 use super::access::Refusal;
 use super::controller::Controller;
@@ -19,7 +18,7 @@ use task_file::{BAYS, Command, Phase, Register, State};
 #[inline(never)]
 fn read_status<D: Drive>(state: &mut State, drives: &[D; BAYS]) -> u8
     ensures byte { result ≡ status_of state.old (seen (model D.meaning state.old drives.now)) }
-    ensures after { state.new ≡ with_intrq state.old false }
+    ensures after { state.new ≡ record state.old { intrq = false } }
 {
     let view = selected_view(state, drives);
     state.intrq = false;
@@ -50,7 +49,7 @@ impl<D: Drive> Controller<D> {
         ensures answer { result ≡ read_answered (model_of D.meaning self.old) number }
         ensures after { model_of D.meaning self.new
             ≡ after_register_read (model_of D.meaning self.old) number }
-        ensures drives { self.new.drives ≡ self.old.drives }
+        ensures drives { drives_in self.new ≡ drives_in self.old }
     {
         let register = Register::try_from(number)?;
         let Controller { state, drives } = self;
@@ -62,8 +61,8 @@ impl<D: Drive> Controller<D> {
             (_, Register::Error) => Ok(state.error()),
             (_, Register::Count) => Ok(state.registers.count),
             (_, Register::Number) => Ok(state.registers.number),
-            (_, Register::Low) => Ok(state.registers.low),
-            (_, Register::High) => Ok(state.registers.high),
+            (_, Register::CylinderLow) => Ok(state.registers.cylinder_low),
+            (_, Register::CylinderHigh) => Ok(state.registers.cylinder_high),
             (_, Register::Sdh) => Ok(state.registers.sdh),
         }
     }
@@ -78,7 +77,7 @@ impl<D: Drive> Controller<D> {
         ensures answer { result ≡ write_answered (model_of D.meaning self.old) number byte }
         ensures after { model_of D.meaning self.new
             ≡ after_register_write (model_of D.meaning self.old) number byte }
-        ensures drives { self.new.drives ≡ self.old.drives }
+        ensures drives { drives_in self.new ≡ drives_in self.old }
     {
         let register = Register::try_from(number)?;
         let Controller { state, drives } = self;

@@ -2,7 +2,7 @@
 ghost use Rattle.std.specs.Prelude.{◌≡◌};
 ghost use Rattle.controller.specs.Turns.{turned, restore_turn, read_act, write_act, format_act, worked};
 ghost use Rattle.controller.specs.Model.{after_turn, after_reset};
-ghost use Rattle.controller.specs.Controller.{model_of};
+ghost use Rattle.controller.specs.Controller.{drives_in, model_of};
 
 use super::controller::Controller;
 use drive::{Drive, MOST_SECTORS, step_toward};
@@ -93,7 +93,7 @@ impl<D: Drive> Controller<D> {
     /// A master reset: registers, lines and flags are cleared, and Test begins.
     pub fn master_reset(&mut self)
         ensures after { model_of D.meaning self.new ≡ after_reset (model_of D.meaning self.old) }
-        ensures drives { self.new.drives ≡ self.old.drives }
+        ensures drives { drives_in self.new ≡ drives_in self.old }
     {
         self.state.reset();
     }

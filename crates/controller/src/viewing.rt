@@ -13,9 +13,7 @@ fn view<D: Drive>(at: Selection, drive: &D) -> DriveView
         at,
         ready: drive.is_ready(),
         protected: drive.is_protected(),
-        cylinders: drive.cylinders(),
-        heads: drive.heads(),
-        capacity: drive.capacity(),
+        geometry: drive.geometry(),
     }
 }
 

@@ -1,5 +1,5 @@
 //! What a sheet's comparison with its script tells.
-ghost use Rattle.std.specs.Prelude.{◌≡◌};
+ghost use Rattle.std.specs.Prelude.{◌≡◌, ◌↔◌, None};
 ghost use Rattle.cue_sheet.specs.Lines.{differing_line};
 
 use super::lines::first_difference;
@@ -14,7 +14,8 @@ pub struct Comparison {
 impl Comparison {
     /// Compares a sheet with its script.
     pub fn of(sheet: &[u8], script: &[u8]) -> Comparison
-        ensures { result.first ≡ differing_line sheet.now script.now }
+        ensures line { result.first ≡ differing_line sheet.now script.now }
+        ensures none { (result.first ≡ None) ↔ (sheet.now ≡ script.now) }
     {
         Comparison {
             first: first_difference(sheet, script),

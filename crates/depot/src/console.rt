@@ -1,14 +1,14 @@
 //! The console: the host of a controller, which it reaches by the eight registers alone.
 use super::outcome::{Failure, Outcome, Success};
-use super::registers::{ECC_512, Order, Status, read, write};
+use super::registers::{Order, Status, read, sdh, write};
 use anyhow::anyhow;
 use controller::{Answer, Call, Controller, Lines, make_call};
-use drive::{Drive, Place};
+use drive::{Drive, Place, SectorId};
 use histories::finish;
 use records::{Grid, RECORD};
 use round_trip::run;
 use std::alloc::Global;
-use task_file::Register;
+use task_file::{Register, format_pair};
 
 /// A console with its controller. It knows where records lie on the Winchester, and remembers the
 /// cylinder that it sent the head to.
@@ -27,11 +27,11 @@ pub struct Record {
     pub bytes: Vec<u8>,
 }
 
-// The bytes of a format: for each sector a mark, 0 for a good one, and its number; then zeros.
+// The bytes of a format: a pair for each of so many good sectors, numbered from 0, then zeros.
 fn format_bytes(sectors: u8) -> [u8; RECORD] {
     let mut bytes = [0u8; RECORD];
     for (number, pair) in (0..sectors).zip(bytes.chunks_exact_mut(2)) {
-        pair[1] = number;
+        pair.copy_from_slice(&format_pair(SectorId { number, bad: false }));
     }
     bytes
 }
@@ -75,11 +75,12 @@ impl<D: Drive> Console<D> {
 
     // Names a sector, and gives a command for it.
     fn command(&mut self, place: Place, order: Order) -> anyhow::Result<()> {
+        let [high, low] = place.cylinder.to_be_bytes();
         let calls = [
             write(Register::Number, place.number),
-            write(Register::Low, (place.cylinder % 256) as u8),
-            write(Register::High, (place.cylinder / 256) as u8),
-            write(Register::Sdh, ECC_512 + place.head % 8),
+            write(Register::CylinderLow, low),
+            write(Register::CylinderHigh, high),
+            write(Register::Sdh, sdh(place.head)),
             write(Register::Status, u8::from(order)),
         ];
         self.run(&calls)?;

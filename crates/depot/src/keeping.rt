@@ -2,9 +2,8 @@
 use super::console::Console;
 use super::outcome::{Outcome, Tally};
 use super::registers::Order;
-use cue_sheet::loaded;
 use drive::{Drive, Place};
-use records::RECORD;
+use records::{RECORD, record_of};
 use std::io;
 
 /// Sends the head to cylinder 0, at the depot or on site.
@@ -86,7 +85,7 @@ pub fn store<D: Drive>(
     let mut tally = Tally::default();
     for (index, (place, part)) in places.iter().zip(sheet.chunks(RECORD)).enumerate() {
         let outcome = console
-            .write_record(*place, &loaded(part))?
+            .write_record(*place, &record_of(part))?
             .required(rt.alloc(), "a record could not be written")?;
         print_writing(rt, index, outcome)?;
         tally.count(outcome);

@@ -1,20 +1,37 @@
 //! What a console writes to the registers of a controller, and what it reads from them.
+use check_code::CheckMode;
 use controller::Call;
+use sector::SizeCode;
 use std::fmt;
-use task_file::Register;
+use task_file::{
+    Bay, CORRECTED, Command, DATA_REQUEST, ERROR, ReadMode, Register, Sdh, Selection, WriteMode,
+};
 
-/// The commands that a console gives, each by its byte.
+/// The commands that a console gives: a plain read or write of one sector, and two of the drive.
 #[derive(Clone, Copy, Debug)]
 pub enum Order {
-    Restore = 0x10,
-    Read = 0x20,
-    Write = 0x30,
-    Format = 0x50,
+    Restore,
+    Read,
+    Write,
+    Format,
 }
 
 impl From<Order> for u8 {
+    // The byte of its command.
     fn from(order: Order) -> u8 {
-        order as u8
+        u8::from(match order {
+            Order::Restore => Command::Restore,
+            Order::Read => Command::Read(ReadMode {
+                dma: false,
+                multiple: false,
+                long: false,
+            }),
+            Order::Write => Command::Write(WriteMode {
+                multiple: false,
+                long: false,
+            }),
+            Order::Format => Command::Format,
+        })
     }
 }
 
@@ -25,8 +42,18 @@ impl fmt::Display for Order {
     }
 }
 
-/// SDH for head 0 of Winchester 1, with sectors of 512 bytes under ECC; the head is added.
-pub const ECC_512: u8 = 0xa0;
+/// SDH for a head of Winchester 1, and the sectors of records under ECC.
+pub fn sdh(head: u8) -> u8 {
+    Sdh {
+        mode: CheckMode::Ecc,
+        size: SizeCode::Bytes512,
+        at: Selection {
+            bay: Bay::Winchester1,
+            head,
+        },
+    }
+    .byte()
+}
 
 /// What the status says once a command has ended.
 #[derive(Clone, Copy)]
@@ -35,17 +62,17 @@ pub struct Status(pub u8);
 impl Status {
     /// The command failed.
     pub fn is_error(self) -> bool {
-        self.0 & 0x01 != 0
+        self.0 & ERROR != 0
     }
 
     /// A sector was corrected.
     pub fn is_corrected(self) -> bool {
-        self.0 & 0x04 != 0
+        self.0 & CORRECTED != 0
     }
 
     /// A byte is asked for: one that is offered, or one that is to be given.
     pub fn is_request(self) -> bool {
-        self.0 & 0x08 != 0
+        self.0 & DATA_REQUEST != 0
     }
 }
 

@@ -33,17 +33,17 @@ pub record Whole (s : Sector) : Type 0 where
 
 -- what holds of a drive of such a make
 pub record Bounded (most : Measures) (d : DriveModel) : Type 0 where
-  pub some_cylinder : 1 ≤ d.cylinders
-  pub few_cylinders : d.cylinders ≤ most.cylinders
-  pub some_head : 1 ≤ d.heads
-  pub few_heads : d.heads ≤ most.heads
-  pub inside : d.cylinder < d.cylinders
+  pub some_cylinder : 1 ≤ d.geometry.cylinders
+  pub few_cylinders : d.geometry.cylinders ≤ most.cylinders
+  pub some_head : 1 ≤ d.geometry.heads
+  pub few_heads : d.geometry.heads ≤ most.heads
+  pub inside : d.cylinder < d.geometry.cylinders
   pub few_sectors : (c h : ℕ) → length (d.track c h) ≤ 64
   pub whole_sectors : (c h : ℕ) → All Whole (d.track c h)
-  pub past_cylinders : (c h : ℕ) → d.cylinders ≤ c → d.track c h ≡ []
-  pub past_heads : (c h : ℕ) → d.heads ≤ h → d.track c h ≡ []
+  pub past_cylinders : (c h : ℕ) → d.geometry.cylinders ≤ c → d.track c h ≡ []
+  pub past_heads : (c h : ℕ) → d.geometry.heads ≤ h → d.track c h ≡ []
 
 -- A drive with the meaning of a drive: 1 to 1,024 cylinders and 1 to 8 heads, its head on one of the cylinders, on each
 -- track at most 64 sectors, each of them whole, and no sector elsewhere.
 abbrev pub ADrive : DriveModel → Type 0
-ADrive d = Bounded (record { cylinders = 1024; heads = 8 }) d
+ADrive = Bounded (measures 1024 8)

@@ -1,5 +1,5 @@
 -- What each call on a drive answers and leaves.
-use Rattle.std.specs.Prelude.{ℕ, ◌+◌, ◌-◌, ◌*◌, cond, not, ◌&&◌, List, ◌++◌, length, get_or, take, drop, Some, None, Option, Ok, Err, Result, is_ok, replicate, nat_le, nat_lt, slice_index_or, slice_set}
+use Rattle.std.specs.Prelude.{ℕ, ◌+◌, ◌-◌, ◌*◌, cond, not, ◌&&◌, List, ◌++◌, length, take, drop, Some, None, Option, Ok, Err, Result, is_ok, replicate, nat_le, nat_lt, slice_index_or, slice_set}
 use Rattle.sector.specs.Bits.{inverted, from_bit}
 use Rattle.sector.specs.Sizes.{bytes_of}
 use Rattle.sector.specs.declared.size.SizeCode.{SizeCode}
@@ -13,7 +13,7 @@ use Rattle.drive.specs.declared.answers.WriteError.TheVariants as write_error
 use Rattle.drive.specs.declared.answers.FormatError.{FormatError}
 use Rattle.drive.specs.declared.answers.FormatError.TheVariants as format_error
 use Rattle.drive.specs.Asking.{unless}
-use Rattle.drive.specs.Model.{Sector, no_sector, slot_of, rewritten, blank_track, Showing, no_id, no_data_mark, wrong_bits, used_up, sector, track, DriveModel, at_cylinder, with_outlook, with_track}
+use Rattle.drive.specs.Model.{Sector, no_sector, slot_of, rewritten, blank_track, Showing, no_id, no_data_mark, wrong_bits, used_up, sector, track, DriveModel, with_track}
 
 -- what a call that hands nothing back answers where it is done
 abbrev pub done : {E : Type 0} → Result (Unit {0}) E
@@ -25,11 +25,11 @@ step_answer d = unless d.ready (Err (record {})) done
 
 -- one cylinder in, or none at the last
 unfoldable pub stepped_in : DriveModel → DriveModel
-stepped_in d = cond (d.ready && nat_lt (d.cylinder + 1) d.cylinders) (at_cylinder d (d.cylinder + 1)) d
+stepped_in d = cond (d.ready && nat_lt (d.cylinder + 1) d.geometry.cylinders) (record d { cylinder = d.cylinder + 1 }) d
 
 -- one cylinder out, or none at the first
 unfoldable pub stepped_out : DriveModel → DriveModel
-stepped_out d = cond (d.ready && nat_lt 0 d.cylinder) (at_cylinder d (d.cylinder - 1)) d
+stepped_out d = cond (d.ready && nat_lt 0 d.cylinder) (record d { cylinder = d.cylinder - 1 }) d
 
 -- one step toward a cylinder
 abbrev pub nearer : DriveModel → ℕ → DriveModel
@@ -40,13 +40,12 @@ nearer d cylinder = cond (nat_lt d.cylinder cylinder) (stepped_in d) (cond (nat_
 -- and else what `good` says of its slot
 abbrev pub on_slot : {A : Type 0} → Option ℕ → List Sector → A → A → (ℕ → A) → A
 on_slot None ss missing marked good = missing
-on_slot (Some k) ss missing marked good = cond (get_or ss k no_sector).bad marked (good k)
+on_slot (Some k) ss missing marked good = cond (slice_index_or ss k no_sector).bad marked (good k)
 
 -- the same under what the attempt shows: no ID hides every sector
 abbrev pub attempted : {A : Type 0} → Showing → List Sector → ℕ → SizeCode → A → A → (ℕ → A) → A
 attempted no_id ss number size missing marked good = missing
-attempted no_data_mark ss number size missing marked good = on_slot (slot_of ss number size) ss missing marked good
-attempted (wrong_bits w) ss number size missing marked good = on_slot (slot_of ss number size) ss missing marked good
+attempted shown ss number size missing marked good = on_slot (slot_of ss number size) ss missing marked good
 
 -- the track of a head at the head's cylinder
 abbrev pub track_under : DriveModel → ℕ → List Sector
@@ -58,7 +57,7 @@ shown d head number = d.outlook d.cylinder head number 0
 
 -- the drive once an attempt has used up the first entry of its place
 abbrev pub attempted_at : DriveModel → ℕ → ℕ → DriveModel
-attempted_at d head number = with_outlook d (used_up d.outlook d.cylinder head number)
+attempted_at d head number = record d { outlook = used_up d.outlook d.cylinder head number }
 
 -- what a read of a good sector answers
 abbrev pub read_of : Showing → Result (Unit {0}) ReadError
@@ -79,13 +78,12 @@ blank_buffer = record { bytes = replicate 1024 0; check = replicate 4 0 }
 
 -- the buffer after a good sector was read: its bytes and check bytes, with the wrong bits inverted, over the front of what stood there
 abbrev pub delivered : Showing → Sector → SectorBuffer → SectorBuffer
-delivered no_id s b = b
-delivered no_data_mark s b = b
 delivered (wrong_bits w) s b =
     record {
       bytes = inverted w s.bytes ++ drop (length s.bytes) b.bytes;
       check = inverted (from_bit (8 * length s.bytes) w) s.check;
     }
+delivered hidden s b = b
 
 -- the buffer that it hands over: of an attempt that is not done, the one that came
 unfoldable pub handed_over : DriveModel → ℕ → ℕ → SizeCode → SectorBuffer → SectorBuffer
@@ -111,7 +109,7 @@ abbrev pub written : DriveModel → ℕ → SizeCode → SectorBuffer → ℕ �
 written d head size b k =
     with_track d head
     (slice_set (track_under d head) k (rewritten (slice_index_or (track_under d head) k no_sector) (take (bytes_of size) b.bytes) b.check))
-    (sector head k (take (bytes_of size) b.bytes) b.check)
+    (sector d.cylinder head k (take (bytes_of size) b.bytes) b.check)
 
 -- what it leaves of the drive: one that is done replaces the sector
 unfoldable pub after_write : DriveModel → ℕ → ℕ → SizeCode → SectorBuffer → DriveModel
@@ -129,13 +127,13 @@ unfoldable pub format_answer : DriveModel → ℕ → List SectorId → SizeCode
 format_answer d head ids size =
     unless d.ready (Err format_error.NotReady)
     (unless (not d.protected) (Err format_error.Protected)
-    (unless (nat_lt head d.heads) (Err format_error.BadHead)
+    (unless (nat_lt head d.geometry.heads) (Err format_error.BadHead)
     (unless (nat_le 1 (length ids) && nat_le (length ids) 64) (Err format_error.BadCount)
-    (unless (nat_le (length ids * bytes_of size) d.capacity) (Err format_error.TooLong)
+    (unless (nat_le (length ids * bytes_of size) d.geometry.capacity) (Err format_error.TooLong)
     done))))
 
 -- a format that nothing stands against replaces the track; any other changes nothing
 unfoldable pub after_format : DriveModel → ℕ → List SectorId → SizeCode → List ℕ → DriveModel
 after_format d head ids size check =
     unless (is_ok (format_answer d head ids size)) d
-    (with_track d head (blank_track ids size check) (track head ids size check))
+    (with_track d head (blank_track ids size check) (track d.cylinder head ids size check))

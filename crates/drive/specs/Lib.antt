@@ -1,5 +1,4 @@
 pub mod Asking
-pub mod Search
 pub mod Model
 pub mod Calls
 pub mod Bounds

@@ -1,11 +1,12 @@
 -- What a drive is: its measures, its tracks, the outlook of its places and the memory behind them.
 use Rattle.std.specs.Prelude.{ℕ, ◌+◌, Bool, false, cond, ◌&&◌, List, [], map, replicate, Option, ◌==◌}
+use Rattle.std.specs.List.{position_from}
 use Rattle.sector.specs.Bits.{BitSet}
 use Rattle.sector.specs.Sizes.{bytes_of, number_of}
 use Rattle.sector.specs.declared.size.SizeCode.{SizeCode}
 use Rattle.sector.specs.declared.size.SizeCode.TheVariants.{Bytes128}
 use Rattle.drive.specs.declared.answers.SectorId.{SectorId}
-use Rattle.drive.specs.Search.{first_match}
+use Rattle.drive.specs.declared.geometry.Geometry.{Geometry}
 
 -- ---- a track
 -- a sector on a track: its ID, with the bad mark, its bytes and its four check bytes
@@ -26,11 +27,11 @@ is_meant number size s = s.number == number && number_of s.size == number_of siz
 
 -- the slot of the sector meant: the first with that number and size code
 abbrev pub slot_of : List Sector → ℕ → SizeCode → Option ℕ
-slot_of track number size = first_match (is_meant number size) track
+slot_of track number size = position_from (is_meant number size) 0 track
 
 -- a sector with other bytes and check bytes
 abbrev pub rewritten : Sector → List ℕ → List ℕ → Sector
-rewritten s bytes check = record { number = s.number; size = s.size; bad = s.bad; bytes = bytes; check = check }
+rewritten s bytes check = record s { bytes = bytes; check = check }
 
 -- a sector as a format lays it down, with zero bytes
 abbrev pub blank_sector : SizeCode → List ℕ → SectorId → Sector
@@ -62,23 +63,21 @@ used_up o cylinder head number c h n k =
     cond (c == cylinder && (h == head && n == number)) (o c h n (k + 1)) (o c h n k)
 
 -- ---- the memory behind the tracks
--- What a done write or format puts on a track of the cylinder under the head.
+-- What a done write or format puts on a track, which it names by cylinder and head.
 pub data Change : Type 0 where
-  -- head and slot of the sector, its new bytes and check bytes
-  sector : ℕ → ℕ → List ℕ → List ℕ → Change
-  -- head, the new sectors' IDs, their size code and check bytes
-  track : ℕ → List SectorId → SizeCode → List ℕ → Change
+  -- cylinder, head and slot of the sector, its new bytes and check bytes
+  sector : ℕ → ℕ → ℕ → List ℕ → List ℕ → Change
+  -- cylinder and head, the new sectors' IDs, their size code and check bytes
+  track : ℕ → ℕ → List SectorId → SizeCode → List ℕ → Change
 
--- how a make lays a change at a cylinder into its memory
+-- how a make lays a change into its memory
 abbrev pub Layout : Type 0
-Layout = ℕ → Change → List ℕ → List ℕ
+Layout = Change → List ℕ → List ℕ
 
 -- ---- a drive
 -- A drive. Its measures, readiness, protection and layout never change. A track is named by cylinder and head.
 pub record DriveModel : Type 0 where
-  pub cylinders : ℕ
-  pub heads : ℕ
-  pub capacity : ℕ
+  pub geometry : Geometry
   pub ready : Bool
   pub protected : Bool
   pub cylinder : ℕ
@@ -87,38 +86,6 @@ pub record DriveModel : Type 0 where
   pub memory : List ℕ
   pub layout : Layout
 
--- the drive with its head at another cylinder
-abbrev pub at_cylinder : DriveModel → ℕ → DriveModel
-at_cylinder d c =
-    record {
-      cylinders = d.cylinders;
-      heads = d.heads;
-      capacity = d.capacity;
-      ready = d.ready;
-      protected = d.protected;
-      cylinder = c;
-      track = d.track;
-      outlook = d.outlook;
-      memory = d.memory;
-      layout = d.layout;
-    }
-
--- the drive with another outlook
-abbrev pub with_outlook : DriveModel → Outlook → DriveModel
-with_outlook d o =
-    record {
-      cylinders = d.cylinders;
-      heads = d.heads;
-      capacity = d.capacity;
-      ready = d.ready;
-      protected = d.protected;
-      cylinder = d.cylinder;
-      track = d.track;
-      outlook = o;
-      memory = d.memory;
-      layout = d.layout;
-    }
-
 -- the tracks with one of them replaced
 abbrev pub replaced : (ℕ → ℕ → List Sector) → ℕ → ℕ → List Sector → ℕ → ℕ → List Sector
 replaced tracks cylinder head new c h = cond (c == cylinder && h == head) new (tracks c h)
@@ -126,15 +93,4 @@ replaced tracks cylinder head new c h = cond (c == cylinder && h == head) new (t
 -- the drive with a track under its head replaced, and the change that did it laid into the memory
 abbrev pub with_track : DriveModel → ℕ → List Sector → Change → DriveModel
 with_track d head new change =
-    record {
-      cylinders = d.cylinders;
-      heads = d.heads;
-      capacity = d.capacity;
-      ready = d.ready;
-      protected = d.protected;
-      cylinder = d.cylinder;
-      track = replaced d.track d.cylinder head new;
-      outlook = d.outlook;
-      memory = d.layout d.cylinder change d.memory;
-      layout = d.layout;
-    }
+    record d { track = replaced d.track d.cylinder head new; memory = d.layout change d.memory }

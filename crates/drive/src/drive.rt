@@ -6,6 +6,7 @@ ghost use Rattle.drive.specs.Bounds.{measures, Limits, Bounded};
 
 use super::answers::{FormatError, NotReady, ReadError, SectorId, WriteError};
 use super::buffer::SectorBuffer;
+use super::geometry::Geometry;
 use super::place::SectorAddress;
 use sector::SizeCode;
 
@@ -25,17 +26,9 @@ pub trait Drive {
     // What the drive means.
     ghost meaning: { Self → DriveModel };
 
-    /// How many cylinders the drive has.
-    fn cylinders(&self) -> u16
-        ensures { result ≡ (meaning self.now).cylinders };
-
-    /// How many heads the drive has.
-    fn heads(&self) -> u8
-        ensures { result ≡ (meaning self.now).heads };
-
-    /// How many bytes of sectors a track has room for.
-    fn capacity(&self) -> u32
-        ensures { result ≡ (meaning self.now).capacity };
+    /// How many cylinders and heads the drive has, and how much room a track; they never change.
+    fn geometry(&self) -> Geometry
+        ensures { result ≡ (meaning self.now).geometry };
 
     /// Whether the drive is ready; one that is not refuses steps, attempts and formats.
     fn is_ready(&self) -> bool

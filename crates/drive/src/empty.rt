@@ -1,11 +1,12 @@
 //! The bay without a drive.
 ghost use Rattle.std.specs.Prelude.{◌≡◌};
-ghost use Rattle.drive.specs.Empty.{empty_model};
+ghost use Rattle.drive.specs.Empty.{empty_model, keeping, kept_in};
 ghost use Rattle.std.proofs.Common.{rules};
 
 use super::answers::{FormatError, NotReady, ReadError, SectorId, WriteError};
 use super::buffer::SectorBuffer;
 use super::drive::Drive;
+use super::geometry::Geometry;
 use super::place::SectorAddress;
 use sector::SizeCode;
 
@@ -19,14 +20,14 @@ pub struct EmptyBay {
 impl EmptyBay {
     /// A bay without a drive, with this memory.
     pub fn new(memory: Vec<u8>) -> EmptyBay
-        ensures { result.memory ≡ memory }
+        ensures { result ≡ keeping memory }
     {
         EmptyBay { memory }
     }
 
     /// The memory, untouched.
     pub fn into_memory(self) -> Vec<u8>
-        ensures { result ≡ self.memory }
+        ensures { self ≡ keeping result }
     {
         self.memory
     }
@@ -41,22 +42,18 @@ impl Drive for EmptyBay {
 
     ghost MOST_HEADS = { 1 };
 
-    ghost meaning = { λ b. empty_model b.memory.items };
+    ghost meaning = { λ b. empty_model (kept_in b) };
 
     ghost limits = { Prim.search rules };
 
     ghost bounded = { Prim.search rules };
 
-    fn cylinders(&self) -> u16 {
-        1
-    }
-
-    fn heads(&self) -> u8 {
-        1
-    }
-
-    fn capacity(&self) -> u32 {
-        0
+    fn geometry(&self) -> Geometry {
+        Geometry {
+            cylinders: 1,
+            heads: 1,
+            capacity: 0,
+        }
     }
 
     fn is_ready(&self) -> bool {

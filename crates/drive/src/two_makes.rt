@@ -6,6 +6,7 @@ ghost use Rattle.std.proofs.Common.{rules};
 use super::answers::{FormatError, NotReady, ReadError, SectorId, WriteError};
 use super::buffer::SectorBuffer;
 use super::drive::Drive;
+use super::geometry::Geometry;
 use super::place::SectorAddress;
 use either::{Either, for_both};
 use sector::SizeCode;
@@ -34,16 +35,8 @@ impl<L: Drive, R: Drive> Drive for Either<L, R> {
 
     ghost bounded = { Prim.search rules };
 
-    fn cylinders(&self) -> u16 {
-        for_both!(self, drive => drive.cylinders())
-    }
-
-    fn heads(&self) -> u8 {
-        for_both!(self, drive => drive.heads())
-    }
-
-    fn capacity(&self) -> u32 {
-        for_both!(self, drive => drive.capacity())
+    fn geometry(&self) -> Geometry {
+        for_both!(self, drive => drive.geometry())
     }
 
     fn is_ready(&self) -> bool {

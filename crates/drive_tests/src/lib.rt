@@ -53,7 +53,11 @@ mod tests {
             let memory = vec![in heap; 0u8; asked.length]?;
             let made = Image::<M>::new(asked.geometry, false, memory);
             assert_eq!(rt; number_of(&made), asked.number);
-            assert_eq!(rt; fitted(made).is_ready(), asked.number.is_none());
+            let drive = fitted(made);
+            assert_eq!(rt; drive.is_ready(), asked.number.is_none());
+            if drive.is_ready() {
+                assert_eq!(rt; drive.geometry(), asked.geometry);
+            }
         }
         Ok(())
     }
@@ -237,8 +241,7 @@ mod tests {
         let mut drive = fitted(WinchesterImage::new(geometry(1, 1, 128), true, memory));
         let beyond = SectorAddress {
             head: 9,
-            number: 0,
-            size: SizeCode::Bytes128,
+            ..at(0, SizeCode::Bytes128)
         };
         assert_eq!(rt;
             drive.write(beyond, &SectorBuffer::zeroed()),
@@ -259,6 +262,7 @@ mod tests {
         };
         let first = at(0, SizeCode::Bytes128);
         assert!(rt; !drive.is_ready());
+        assert_eq!(rt; drive.geometry(), geometry(1, 1, 0));
         assert_eq!(rt; drive.step_in(), Err(NotReady));
         assert_eq!(rt; drive.step_out(), Err(NotReady));
         assert_eq!(rt; drive.read(first, &mut buffer), Err(ReadError::NotReady));

@@ -1,5 +1,5 @@
 -- What comes of adding an entry.
-use Rattle.std.specs.Prelude.{ℕ, cond, List, [], ◌∷◌, ◌++◌, length, is_ok, Ok, Err, Result, nat_lt}
+use Rattle.std.specs.Prelude.{ℕ, cond, List, [], ◌∷◌, ◌++◌, length, fold, is_ok, Ok, Err, Result, nat_lt}
 use Rattle.fault_table.specs.declared.refusal.AddRefusal.{AddRefusal}
 use Rattle.fault_table.specs.declared.refusal.AddRefusal.TheVariants.{TableFull, OutOfRange}
 use Rattle.fault_table.specs.declared.entry.FaultEntry.{FaultEntry}
@@ -20,5 +20,4 @@ after_add es e = cond (is_ok (add_answer es e)) (es ++ e ∷ []) es
 
 -- the entries once others were added one after another, as far as they are taken
 abbrev pub all_added : List FaultEntry → List FaultEntry → List FaultEntry
-all_added es [] = es
-all_added es (x ∷ xs) = all_added (after_add es x) xs
+all_added = fold after_add

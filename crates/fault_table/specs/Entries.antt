@@ -1,5 +1,6 @@
 -- The entries of a fault table: their kinds and ranges, and which one an attempt meets.
 use Rattle.std.specs.Prelude.{ℕ, ◌-◌, ◌%◌, Bool, true, false, cond, ◌&&◌, List, [], ◌∷◌, Some, None, Option, ◌==◌, nat_le, nat_lt}
+use Rattle.drive.specs.declared.place.Place.{Place}
 use Rattle.fault_table.specs.declared.entry.FaultKind.{FaultKind}
 use Rattle.fault_table.specs.declared.entry.FaultKind.TheVariants.{NoId, NoDataMark, WrongBits}
 use Rattle.fault_table.specs.declared.entry.FaultEntry.{FaultEntry}
@@ -21,29 +22,30 @@ in_range e =
     && (nat_lt e.burst.pattern 32
     && nat_le 1 e.attempts))))
 
--- is it an entry of this place?
-abbrev pub of_place : ℕ → ℕ → ℕ → FaultEntry → Bool
-of_place c h n e = e.place.cylinder == c && (e.place.head == h && e.place.number == n)
+-- are they one place?
+abbrev pub same_place : Place → Place → Bool
+same_place p q = p.cylinder == q.cylinder && (p.head == q.head && p.number == q.number)
 
--- does it apply at this place? A used-up one is passed over
-abbrev pub applies_at : ℕ → ℕ → ℕ → FaultEntry → Bool
-applies_at c h n e = of_place c h n e && nat_lt 0 e.attempts
-
--- the entry that an attempt at a place meets: the first that applies
-abbrev pub met : ℕ → ℕ → ℕ → List FaultEntry → Option FaultEntry
-met c h n [] = None
-met c h n (e ∷ es) = cond (applies_at c h n e) (Some e) (met c h n es)
+-- does an entry apply at this place? A used-up one is passed over
+abbrev pub applies_at : Place → FaultEntry → Bool
+applies_at p e = same_place e.place p && nat_lt 0 e.attempts
 
 -- an entry with one attempt less
 abbrev pub worn : FaultEntry → FaultEntry
 worn e = record e { attempts = e.attempts - 1 }
 
--- the entries once an attempt is made at a place
-abbrev pub spent : ℕ → ℕ → ℕ → List FaultEntry → List FaultEntry
-spent c h n [] = []
-spent c h n (e ∷ es) = cond (applies_at c h n e) (worn e ∷ es) (e ∷ spent c h n es)
+-- the entries once an attempt is made at a place: the first that applies there is worn
+abbrev pub spent : Place → List FaultEntry → List FaultEntry
+spent p [] = []
+spent p (e ∷ es) = cond (applies_at p e) (worn e ∷ es) (e ∷ spent p es)
 
--- does what an attempt meets keep it from the drive below? No ID does
+-- does an entry of this kind keep an attempt from the drive below? No ID does
+abbrev pub hides : FaultKind → Bool
+hides NoId = true
+hides NoDataMark = false
+hides WrongBits = false
+
+-- does what an attempt meets?
 abbrev pub hides_all : Option FaultEntry → Bool
 hides_all None = false
-hides_all (Some e) = elim e.kind [ NoId ↦ true | NoDataMark ↦ false | WrongBits ↦ false ]
+hides_all (Some e) = hides e.kind

@@ -1,6 +1,7 @@
 //! The entries of a fault table.
-ghost use Rattle.std.specs.Prelude.{◌≡◌};
-ghost use Rattle.fault_table.specs.Entries.{kind_number, in_range, applies_at, met, spent};
+ghost use Rattle.std.specs.Prelude.{◌≡◌, find};
+ghost use Rattle.std.specs.List.{position_from};
+ghost use Rattle.fault_table.specs.Entries.{kind_number, in_range, applies_at, spent};
 
 use arrayvec::ArrayVec;
 use drive::{MOST_CYLINDERS, MOST_HEADS, Place};
@@ -78,31 +79,29 @@ impl FaultEntry {
             && self.burst.pattern < 32
             && self.attempts >= 1
     }
-
-    // Whether an attempt at this place meets the entry, where it meets none before it.
-    fn applies(self, place: Place) -> bool
-        ensures { result ≡ applies_at place.cylinder place.head place.number self }
-    {
-        self.place == place && self.attempts > 0
-    }
 }
 
 // Room for the entries of a table.
 pub(crate) type Entries = ArrayVec<FaultEntry, 32>;
 
+// Where the entry stands that an attempt at a place meets, if there is one.
+fn first_met(entries: &[FaultEntry], place: Place) -> Option<usize>
+    ensures { result ≡ position_from (applies_at place) 0 entries.now }
+{
+    entries
+        .iter()
+        .position(|entry| entry.place == place && entry.attempts > 0)
+}
+
 // The entry that an attempt at a place meets, if any, as it is before the attempt; it then has one
 // attempt less.
+#[tactic(auto, using(crate::proofs::Searched::looked, std::proofs::lemmas::Grind::common_steps))]
 pub(crate) fn spend(entries: &mut Entries, place: Place) -> Option<FaultEntry>
-    ensures value { result ≡ met place.cylinder place.head place.number entries.old.items }
-    ensures after { entries.new.items
-        ≡ spent place.cylinder place.head place.number entries.old.items }
+    ensures value { result ≡ find (applies_at place) entries.old.items }
+    ensures after { entries.new.items ≡ spent place entries.old.items }
 {
-    for entry in entries.iter_mut() {
-        if entry.applies(place) {
-            let met = *entry;
-            entry.attempts -= 1;
-            return Some(met);
-        }
-    }
-    None
+    let first = first_met(entries, place)?;
+    let met = entries[first];
+    entries[first].attempts -= 1;
+    Some(met)
 }

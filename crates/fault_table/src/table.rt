@@ -1,20 +1,20 @@
 //! The fault table.
-ghost use Rattle.std.specs.Prelude.{◌≡◌, []};
-ghost use Rattle.fault_table.specs.Adding.{add_answer, after_add};
-ghost use Rattle.fault_table.specs.Faults.{with_faults};
+ghost use Rattle.std.specs.Prelude.{◌≡◌, ◌+◌, [], length};
+ghost use Rattle.fault_table.specs.Adding.{add_answer, after_add, all_added};
+ghost use Rattle.fault_table.specs.Faults.{with_faults, entries_in, drive_under, table_model};
 ghost use Rattle.std.proofs.Common.{rules};
 
-use super::attempts::{is_hidden, read_damaged, read_unmarked};
-use super::entry::{Entries, FaultEntry, FaultKind, spend};
+use super::attempts::{read_met, write_met};
+use super::entry::{Entries, FaultEntry, spend};
 use super::refusal::AddRefusal;
 use drive::{
-    Drive, FormatError, NotReady, Place, ReadError, SectorAddress, SectorBuffer, SectorId,
-    WriteError,
+    Drive, FormatError, Geometry, NotReady, Place, ReadError, SectorAddress, SectorBuffer,
+    SectorId, WriteError,
 };
 use sector::SizeCode;
 
 /// A drive under faults. Entries of a place apply one after another, in the order of adding, each
-/// for its number of attempts. Used-up ones stay. Clauses name its meaning by `with_faults`.
+/// for its number of attempts. Used-up ones stay. Clauses name its meaning by `table_model`.
 #[derive(Drop)]
 pub struct FaultTable<D: Drive> {
     drive: D,
@@ -24,10 +24,9 @@ pub struct FaultTable<D: Drive> {
 impl<D: Drive> FaultTable<D> {
     /// A drive under no faults yet.
     pub fn over(drive: D) -> FaultTable<D>
-        ensures drive { result.drive ≡ drive }
-        ensures entries { result.faults.items ≡ [] }
-        ensures meaning { with_faults result.faults.items (D.meaning result.drive)
-            ≡ D.meaning drive }
+        ensures drive { drive_under result ≡ drive }
+        ensures entries { entries_in result ≡ [] }
+        ensures meaning { table_model D.meaning result ≡ D.meaning drive }
     {
         FaultTable {
             drive,
@@ -37,7 +36,7 @@ impl<D: Drive> FaultTable<D> {
 
     /// The drive below, as it is now.
     pub fn into_drive(self) -> D
-        ensures { result ≡ self.drive }
+        ensures { result ≡ drive_under self }
     {
         let FaultTable { drive, faults: _ } = self;
         drive
@@ -46,11 +45,12 @@ impl<D: Drive> FaultTable<D> {
     /// Adds an entry behind the others. Refused, in this order: where there are 32, and where it is
     /// out of range.
     pub fn add(&mut self, entry: FaultEntry) -> Result<(), AddRefusal>
-        ensures answer { result ≡ add_answer self.old.faults.items entry }
-        ensures entries { self.new.faults.items ≡ after_add self.old.faults.items entry }
-        ensures drive { self.new.drive ≡ self.old.drive }
-        ensures meaning { with_faults self.new.faults.items (D.meaning self.new.drive)
-            ≡ with_faults (after_add self.old.faults.items entry) (D.meaning self.old.drive) }
+        ensures answer { result ≡ add_answer (entries_in self.old) entry }
+        ensures entries { entries_in self.new ≡ after_add (entries_in self.old) entry }
+        ensures drive { drive_under self.new ≡ drive_under self.old }
+        ensures meaning { table_model D.meaning self.new
+            ≡ with_faults (after_add (entries_in self.old) entry)
+            (D.meaning (drive_under self.old)) }
     {
         if self.faults.is_full() {
             return Err(AddRefusal::TableFull);
@@ -62,10 +62,30 @@ impl<D: Drive> FaultTable<D> {
         Ok(())
     }
 
+    /// Adds these entries one after another behind the others, and passes over those that are
+    /// refused; how many were taken.
+    pub fn add_all(&mut self, entries: &[FaultEntry]) -> usize
+        ensures answer { length (entries_in self.new) ≡ length (entries_in self.old) + result }
+        ensures entries { entries_in self.new ≡ all_added (entries_in self.old) entries.now }
+        ensures drive { drive_under self.new ≡ drive_under self.old }
+        ensures meaning { table_model D.meaning self.new
+            ≡ with_faults (all_added (entries_in self.old) entries.now)
+            (D.meaning (drive_under self.old)) }
+    {
+        let before = self.faults.len();
+        for entry in entries {
+            let _taken = self.add(*entry);
+        }
+        self.faults.len() - before
+    }
+
     // The place that an attempt is made at.
     fn place_of(&self, at: SectorAddress) -> Place
-        ensures { result ≡ record
-            { cylinder = (D.meaning self.now.drive).cylinder; head = at.head; number = at.number } }
+        ensures { result ≡ record {
+          cylinder = (D.meaning (drive_under self.now)).cylinder;
+          head = at.head;
+          number = at.number;
+        } }
     {
         Place {
             cylinder: self.drive.cylinder(),
@@ -76,7 +96,8 @@ impl<D: Drive> FaultTable<D> {
 }
 
 // Calls that no entry changes are handed to the drive below.
-#[tactic(auto, unfolding(drive::specs::Calls::step_answer, // what steps answer
+#[tactic(auto, using(crate::proofs::Under::attempts), // attempts under entries
+unfolding(drive::specs::Calls::step_answer, // what steps answer
 drive::specs::Calls::stepped_in, drive::specs::Calls::stepped_out, // and leave
 drive::specs::Calls::read_answer, drive::specs::Calls::handed_over, // reads
 drive::specs::Calls::after_read, drive::specs::Calls::write_answer, // writes
@@ -91,22 +112,14 @@ impl<D: Drive> Drive for FaultTable<D> {
 
     ghost MOST_HEADS = { D.MOST_HEADS };
 
-    ghost meaning = { λ t. with_faults t.faults.items (D.meaning t.drive) };
+    ghost meaning = { table_model D.meaning };
 
     ghost limits = { Prim.search rules };
 
     ghost bounded = { Prim.search rules };
 
-    fn cylinders(&self) -> u16 {
-        self.drive.cylinders()
-    }
-
-    fn heads(&self) -> u8 {
-        self.drive.heads()
-    }
-
-    fn capacity(&self) -> u32 {
-        self.drive.capacity()
+    fn geometry(&self) -> Geometry {
+        self.drive.geometry()
     }
 
     fn is_ready(&self) -> bool {
@@ -134,14 +147,8 @@ impl<D: Drive> Drive for FaultTable<D> {
             return Err(ReadError::NotReady);
         }
         let place = self.place_of(at);
-        match spend(&mut self.faults, place) {
-            None => self.drive.read(at, buffer),
-            Some(entry) => match entry.kind {
-                FaultKind::NoId => Err(ReadError::NoId),
-                FaultKind::NoDataMark => read_unmarked(&mut self.drive, at),
-                FaultKind::WrongBits => read_damaged(&mut self.drive, at, entry.burst, buffer),
-            },
-        }
+        let met = spend(&mut self.faults, place);
+        read_met(&mut self.drive, met, at, buffer)
     }
 
     fn write(&mut self, at: SectorAddress, buffer: &SectorBuffer) -> Result<(), WriteError> {
@@ -152,10 +159,8 @@ impl<D: Drive> Drive for FaultTable<D> {
             return Err(WriteError::Protected);
         }
         let place = self.place_of(at);
-        if is_hidden(spend(&mut self.faults, place)) {
-            return Err(WriteError::NoId);
-        }
-        self.drive.write(at, buffer)
+        let met = spend(&mut self.faults, place);
+        write_met(&mut self.drive, met, at, buffer)
     }
 
     fn format(

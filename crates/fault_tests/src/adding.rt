@@ -51,17 +51,17 @@ fn ranges(rt: HostRuntime) {
     }
 }
 
-// A refused entry takes no room; a full table is asked first.
+// A refused entry takes no room, and those behind it are taken; a full table is asked first.
 #[test]
 fn thirty_two(rt: HostRuntime) {
     let mut table = FaultTable::over(EmptyBay::new(Vec::new(rt.alloc())));
-    for _ in 0..31 {
-        assert_eq!(rt; add(&mut table, entry(0, 0, 0, 1, 1)), Ok(()));
-    }
-    assert_eq!(rt; add(&mut table, entry(0, 0, 0, 1, 0)), Err(11));
-    assert_eq!(rt; add(&mut table, entry(0, 0, 0, 1, 1)), Ok(()));
-    assert_eq!(rt; add(&mut table, entry(0, 0, 0, 1, 1)), Err(10));
-    assert_eq!(rt; add(&mut table, entry(0, 0, 0, 1, 0)), Err(10));
+    let taken = entry(0, 0, 0, 1, 1);
+    let refused = entry(0, 0, 0, 1, 0);
+    assert_eq!(rt; table.add_all(&[taken; 31]), 31);
+    assert_eq!(rt; add(&mut table, refused), Err(11));
+    assert_eq!(rt; table.add_all(&[refused, taken, taken]), 1);
+    assert_eq!(rt; add(&mut table, taken), Err(10));
+    assert_eq!(rt; add(&mut table, refused), Err(10));
 }
 
 #[test]

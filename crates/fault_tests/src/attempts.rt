@@ -81,13 +81,6 @@ fn write<D: Drive>(drive: &mut D, number: u8) -> u8 {
     }
 }
 
-fn add<D: Drive>(table: &mut FaultTable<D>, entries: &[FaultEntry]) -> Result<(), Fail> {
-    for entry in entries {
-        table.add(*entry)?;
-    }
-    Ok(())
-}
-
 // A run of read attempts shows these letters.
 fn reads<D: Drive>(rt: &impl Abort, drive: &mut D, number: u8, shown: &[u8]) {
     for expected in shown {
@@ -106,28 +99,25 @@ fn writes<D: Drive>(rt: &impl Abort, drive: &mut D, number: u8, shown: &[u8]) {
 fn one_after_another(rt: HostRuntime) -> Result<(), Fail> {
     let mut table = FaultTable::over(formatted(rt.alloc(), false)?);
     reads(&rt, &mut table, 1, b"0");
-    add(
-        &mut table,
-        &[
-            entry(1, FaultKind::WrongBits, 1, 2),
-            entry(2, FaultKind::NoDataMark, 1, 1),
-            entry(1, FaultKind::NoId, 1, 2),
-            entry(1, FaultKind::NoDataMark, 1, 1),
-            FaultEntry {
-                place: Place {
-                    cylinder: 1,
-                    head: 0,
-                    number: 1,
-                },
-                ..entry(1, FaultKind::NoId, 1, 1)
+    table.add_all(&[
+        entry(1, FaultKind::WrongBits, 1, 2),
+        entry(2, FaultKind::NoDataMark, 1, 1),
+        entry(1, FaultKind::NoId, 1, 2),
+        entry(1, FaultKind::NoDataMark, 1, 1),
+        FaultEntry {
+            place: Place {
+                cylinder: 1,
+                head: 0,
+                number: 1,
             },
-            entry(1, FaultKind::WrongBits, 5, 1),
-        ],
-    )?;
+            ..entry(1, FaultKind::NoId, 1, 1)
+        },
+        entry(1, FaultKind::WrongBits, 5, 1),
+    ]);
     reads(&rt, &mut table, 1, b"11i");
     reads(&rt, &mut table, 2, b"m00");
     reads(&rt, &mut table, 1, b"im500");
-    add(&mut table, &[entry(1, FaultKind::NoId, 1, 1)])?;
+    table.add(entry(1, FaultKind::NoId, 1, 1))?;
     reads(&rt, &mut table, 1, b"i0");
     Ok(())
 }
@@ -137,15 +127,12 @@ fn one_after_another(rt: HostRuntime) -> Result<(), Fail> {
 #[test]
 fn writes_use_up(rt: HostRuntime) -> Result<(), Fail> {
     let mut table = FaultTable::over(formatted(rt.alloc(), false)?);
-    add(
-        &mut table,
-        &[
-            entry(1, FaultKind::NoId, 1, 1),
-            entry(1, FaultKind::NoDataMark, 1, 1),
-            entry(1, FaultKind::WrongBits, 1, 2),
-            entry(3, FaultKind::NoDataMark, 1, 1),
-        ],
-    )?;
+    table.add_all(&[
+        entry(1, FaultKind::NoId, 1, 1),
+        entry(1, FaultKind::NoDataMark, 1, 1),
+        entry(1, FaultKind::WrongBits, 1, 2),
+        entry(3, FaultKind::NoDataMark, 1, 1),
+    ]);
     writes(&rt, &mut table, 1, b"iww");
     reads(&rt, &mut table, 1, b"10");
     reads(&rt, &mut table, 3, b"ii");
@@ -156,11 +143,11 @@ fn writes_use_up(rt: HostRuntime) -> Result<(), Fail> {
 #[test]
 fn refused_attempts(rt: HostRuntime) -> Result<(), Fail> {
     let mut table = FaultTable::over(formatted(rt.alloc(), true)?);
-    add(&mut table, &[entry(1, FaultKind::NoId, 1, 1)])?;
+    table.add(entry(1, FaultKind::NoId, 1, 1))?;
     writes(&rt, &mut table, 1, b"pp");
     reads(&rt, &mut table, 1, b"i0");
     let mut empty = FaultTable::over(EmptyBay::new(Vec::new(rt.alloc())));
-    add(&mut empty, &[entry(1, FaultKind::NoId, 1, 1)])?;
+    empty.add(entry(1, FaultKind::NoId, 1, 1))?;
     reads(&rt, &mut empty, 1, b"-");
     writes(&rt, &mut empty, 1, b"-");
     Ok(())
@@ -170,27 +157,21 @@ fn refused_attempts(rt: HostRuntime) -> Result<(), Fail> {
 #[test]
 fn two_tables(rt: HostRuntime) -> Result<(), Fail> {
     let mut below = FaultTable::over(formatted(rt.alloc(), false)?);
-    add(
-        &mut below,
-        &[
-            entry(1, FaultKind::NoDataMark, 1, 1),
-            entry(1, FaultKind::WrongBits, 1, 2),
-            entry(1, FaultKind::NoId, 1, 1),
-            entry(1, FaultKind::WrongBits, 1, 1),
-        ],
-    )?;
+    below.add_all(&[
+        entry(1, FaultKind::NoDataMark, 1, 1),
+        entry(1, FaultKind::WrongBits, 1, 2),
+        entry(1, FaultKind::NoId, 1, 1),
+        entry(1, FaultKind::WrongBits, 1, 1),
+    ]);
     let mut table = FaultTable::over(below);
-    add(
-        &mut table,
-        &[
-            entry(1, FaultKind::NoId, 1, 2),
-            entry(1, FaultKind::WrongBits, 5, 2),
-            entry(1, FaultKind::NoDataMark, 1, 2),
-        ],
-    )?;
+    table.add_all(&[
+        entry(1, FaultKind::NoId, 1, 2),
+        entry(1, FaultKind::WrongBits, 5, 2),
+        entry(1, FaultKind::NoDataMark, 1, 2),
+    ]);
     reads(&rt, &mut table, 1, b"iim4mi10");
     let mut below = table.into_drive();
-    add(&mut below, &[entry(1, FaultKind::NoId, 1, 1)])?;
+    below.add(entry(1, FaultKind::NoId, 1, 1))?;
     reads(&rt, &mut below, 1, b"i0");
     Ok(())
 }
@@ -199,19 +180,16 @@ fn two_tables(rt: HostRuntime) -> Result<(), Fail> {
 #[test]
 fn buffers(rt: HostRuntime) -> Result<(), Fail> {
     let mut table = FaultTable::over(formatted(rt.alloc(), false)?);
-    add(
-        &mut table,
-        &[
-            entry(1, FaultKind::NoDataMark, 1, 1),
-            FaultEntry {
-                burst: Burst {
-                    first: 1022,
-                    pattern: 0b1101,
-                },
-                ..entry(1, FaultKind::WrongBits, 1, 1)
+    table.add_all(&[
+        entry(1, FaultKind::NoDataMark, 1, 1),
+        FaultEntry {
+            burst: Burst {
+                first: 1022,
+                pattern: 0b1101,
             },
-        ],
-    )?;
+            ..entry(1, FaultKind::WrongBits, 1, 1)
+        },
+    ]);
     let mut buffer = SectorBuffer {
         bytes: [9; 1024],
         check: [9; 4],

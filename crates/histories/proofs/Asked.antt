@@ -1,13 +1,14 @@
 -- What is under way can be done, and so no turn is turned away by its drive.
 use Rattle.std.proofs.Common.{◌≡◌, ◌≢◌, ℕ, zero, suc, ◌+◌, ◌*◌, ◌<◌, ◌≤◌, true, false, List, length, Some, None, Err, Option, refl, ap, ◌∙◌, add-one, length-append, arith}
 use Rattle.std.proofs.lemmas.Bool.Decides.{nat_tests}
+use Rattle.std.specs.Option.{option_map}
 use Rattle.sector.specs.declared.size.SizeCode.{SizeCode}
 use Rattle.sector.specs.Sizes.{bytes_of}
 use Rattle.drive.specs.declared.answers.ReadError.TheVariants as read_error
 use Rattle.drive.specs.declared.answers.WriteError.TheVariants as write_error
 use Rattle.drive.specs.Model.{DriveModel}
 use Rattle.drive.specs.Calls.{read_answer, write_answer, format_answer}
-use Rattle.task_file.specs.declared.bay.Selection.{Selection}
+use Rattle.task_file.specs.declared.sdh.Selection.{Selection}
 use Rattle.task_file.specs.declared.registers.Registers.{Registers}
 use Rattle.task_file.specs.declared.command.Command.{Command}
 use Rattle.task_file.specs.declared.command.Command.TheVariants as command
@@ -17,9 +18,10 @@ use Rattle.task_file.specs.declared.state.Phase.{Phase}
 use Rattle.task_file.specs.declared.state.Phase.TheVariants.{Busy}
 use Rattle.task_file.specs.declared.state.State.{State}
 use Rattle.task_file.specs.declared.view.DriveView.{DriveView}
-use Rattle.task_file.specs.Registers.{size_at, selected, sector_count}
+use Rattle.task_file.specs.Registers.{sector_count}
+use Rattle.task_file.specs.Sdh.{size_at, selected}
 use Rattle.task_file.specs.Commands.{writes}
-use Rattle.task_file.specs.Attempts.{ids_of}
+use Rattle.task_file.specs.Pairs.{ids_of}
 use Rattle.task_file.specs.Aborting.{aborts}
 use Rattle.controller.specs.Model.{ControllerModel, view_of, seen_at}
 use Rattle.controller.specs.Runs.{runs}
@@ -37,7 +39,7 @@ unprotected c r v writing able = grind arith
 
 -- a format that is not aborted fits
 formats_fit : (r : Registers) (v : DriveView) → aborts command.Format r (Some v) ≡ false
-    → (v.at.head < v.heads) × (sector_count r ≤ 64) × (sector_count r * bytes_of (size_at r.sdh) ≤ v.capacity)
+    → (v.at.head < v.geometry.heads) × (sector_count r ≤ 64) × (sector_count r * bytes_of (size_at r.sdh) ≤ v.geometry.capacity)
 unfolding aborts
 formats_fit r v able = (grind (arith, nat_tests), grind (arith, nat_tests), grind (arith, nat_tests))
 
@@ -68,7 +70,7 @@ done_as_asked Format s at d able =
     let fit = formats_fit s.registers (view_of at d) able in
     grind (arith, nat_tests, ids_long, ready command.Format s.registers (view_of at d) (λ e. cc) able, unprotected command.Format s.registers (view_of at d) refl able, fit.0, fit.1, fit.2)
 
-turned_away_by : (p : Phase) (sel : Option Selection) (b : ControllerModel) → Able (under_way p) b.state.registers (seen_at sel b) → NothingTurnedAway p sel b
+turned_away_by : (p : Phase) (sel : Option Selection) (b : ControllerModel) → Able (under_way p) b.state.registers (option_map (seen_at b) sel) → NothingTurnedAway p sel b
 unfolding aborts
 turned_away_by (Busy j) (Some at) b able = done_as_asked j b.state at (b.drives at.bay) able
 turned_away_by (Busy Test) None b able = refl

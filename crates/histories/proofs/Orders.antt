@@ -1,22 +1,24 @@
 -- Every history leads to a controller that is in order, and a turn of a busy one leaves fewer turns to make.
 use Rattle.std.proofs.Common.{◌≡◌, ℕ, zero, suc, ◌+◌, ◌<◌, ◌≤◌, true, false, List, [], ◌∷◌, ◌++◌, Some, None, Option, sym, refl, ap, ◌∙◌, subst, add-one, arith}
 use Rattle.std.proofs.lemmas.Bool.Decides.{nat_tests}
+use Rattle.std.specs.Option.{option_map}
 use Rattle.drive.specs.Model.{DriveModel}
 use Rattle.task_file.specs.declared.registers.Registers.{Registers}
 use Rattle.task_file.specs.declared.bay.Bay.{Bay}
-use Rattle.task_file.specs.declared.bay.Selection.{Selection}
+use Rattle.task_file.specs.declared.sdh.Selection.{Selection}
 use Rattle.task_file.specs.declared.state.Job.{Job}
 use Rattle.task_file.specs.declared.state.Job.TheVariants.{Test}
 use Rattle.task_file.specs.declared.state.Phase.{Phase}
 use Rattle.task_file.specs.declared.state.Phase.TheVariants.{Busy}
 use Rattle.task_file.specs.declared.state.State.{State}
 use Rattle.task_file.specs.declared.view.DriveView.{DriveView}
-use Rattle.task_file.specs.Registers.{cylinder_of, selected}
+use Rattle.task_file.specs.Registers.{cylinder_of}
+use Rattle.task_file.specs.Sdh.{selected}
 use Rattle.task_file.specs.State.{is_busy}
 use Rattle.task_file.specs.Beginning.{begun}
-use Rattle.task_file.specs.Moving.{drawn, put}
+use Rattle.task_file.specs.Moving.{drawn_at, put_at}
 use Rattle.controller.specs.Turns.{worked}
-use Rattle.controller.specs.Model.{ControllerModel, with_state, with_drive, seen_at, seen, turned_in, after_turn}
+use Rattle.controller.specs.Model.{ControllerModel, with_drive, seen_at, seen, turned_in, after_turn}
 use Rattle.controller.specs.declared.call.Call.{Call}
 use Rattle.controller.specs.declared.call.Call.TheVariants as call
 use Rattle.controller.specs.Runs.{called, runs, IsNew, Reached}
@@ -28,27 +30,24 @@ use Rattle.histories.proofs.Working.{able_job, able_none, moves_some, left_in, s
 
 -- ---- calls that are no turns
 -- what is seen of the drives depends on SDH alone
-seen_at_same : (sel : Option Selection) (b : ControllerModel) (s : State) → seen_at sel (with_state b s) ≡ seen_at sel b
-seen_at_same sel b s = grind arith
-
-seen_same : (b : ControllerModel) (s : State) → s.registers.sdh ≡ b.state.registers.sdh → seen (with_state b s) ≡ seen b
-seen_same b s e = seen_at_same (selected s.registers.sdh) b s ∙ ap (λ x. seen_at (selected x) b) e
+seen_same : (b : ControllerModel) (s : State) → s.registers.sdh ≡ b.state.registers.sdh → seen (record b { state = s }) ≡ seen b
+seen_same b s e = ap (λ x. option_map (seen_at b) (selected x)) e
 
 -- a state that is in order at a drive, and at any other unless SDH is as it was
 record Orderly (v : Option DriveView) (sdh : ℕ) (s : State) : Type 0 where
   able : (z : Option DriveView) → (s.registers.sdh ≡ sdh → z ≡ v) → Able (under_way s.phase) s.registers z
   counted : Counted s.phase s.registers
 
-in_order : (b : ControllerModel) (s : State) → Orderly (seen b) b.state.registers.sdh s → InOrder (with_state b s)
+in_order : (b : ControllerModel) (s : State) → Orderly (seen b) b.state.registers.sdh s → InOrder (record b { state = s })
 in_order b s orderly = record { able = orderly.able _ (seen_same b s); counted = orderly.counted }
 
 module _ (v : Option DriveView) (s : State) (able : Able (under_way s.phase) s.registers v) (counted : Counted s.phase s.registers) where
   orderly_read : (n : ℕ) → Orderly v s.registers.sdh (state_after_read s n)
-  unfolding state_after_read drawn
+  unfolding state_after_read drawn_at
   orderly_read n = record { able = λ z same. grind arith; counted = grind (arith, nat_tests) }
 
   orderly_write : (n byte : ℕ) → Orderly v s.registers.sdh (state_after_write s v n byte)
-  unfolding state_after_write put begun
+  unfolding state_after_write put_at begun
   orderly_write n byte = record { able = λ z same. grind arith; counted = grind (arith, nat_tests, moves_some) }
 
 -- ---- turns
@@ -71,7 +70,7 @@ pub record Turning (n : ℕ) (e : ControllerModel) : Type 0 where
   pub fewer : left e + 1 ≤ n
 
 turning_in : (j : Job) (sel : Option Selection) (b : ControllerModel) → b.state.phase ≡ Busy j → selected b.state.registers.sdh ≡ sel
-    → Able (under_way (Busy j)) b.state.registers (seen_at sel b) → Counted (Busy j) b.state.registers
+    → Able (under_way (Busy j)) b.state.registers (option_map (seen_at b) sel) → Counted (Busy j) b.state.registers
     → Turning (left_in (Busy j) (head_in sel b) (cylinder_of b.state.registers)) (turned_in (Busy j) sel b)
 turning_in j (Some at) b phase chosen able counted =
     let on = advances at b.state (b.drives at.bay) j phase able counted in
@@ -133,7 +132,7 @@ none_left p r at goal counted none = grind arith
 -- each head stands, and the cylinders of each drive end, below a number
 pub record Within (most : ℕ) (b : ControllerModel) : Type 0 where
   pub stands : (bay : Bay) → (b.drives bay).cylinder < most
-  pub ends : (bay : Bay) → (b.drives bay).cylinders ≤ most
+  pub ends : (bay : Bay) → (b.drives bay).geometry.cylinders ≤ most
 
 -- a seek over all cylinders but one, and nine attempts
 pub left_most : (most : ℕ) (b : ControllerModel) → Within most b → InOrder b → left b ≤ most + 8

@@ -9,7 +9,7 @@ use Rattle.drive.specs.declared.answers.WriteError.{WriteError}
 use Rattle.drive.specs.declared.answers.FormatError.{FormatError}
 use Rattle.drive.specs.Model.{DriveModel}
 use Rattle.drive.specs.Calls.{stepped_in, stepped_out, nearer, read_answer, handed_over, after_read, write_answer, after_write, format_answer, after_format}
-use Rattle.task_file.specs.declared.bay.Selection.{Selection}
+use Rattle.task_file.specs.declared.sdh.Selection.{Selection}
 use Rattle.task_file.specs.declared.registers.Registers.{Registers}
 use Rattle.task_file.specs.declared.command.Command.TheVariants as command
 use Rattle.task_file.specs.declared.attempts.Verdict.{Verdict}
@@ -19,13 +19,13 @@ use Rattle.task_file.specs.declared.state.WriteJob.{WriteJob}
 use Rattle.task_file.specs.declared.state.Job.{Job}
 use Rattle.task_file.specs.declared.state.Job.TheVariants.{Test, Restore, Seek, Read, Write, Format}
 use Rattle.task_file.specs.declared.state.Phase.{Phase}
-use Rattle.task_file.specs.declared.state.Phase.TheVariants.{Rest, Busy, Offering, Taking}
+use Rattle.task_file.specs.declared.state.Phase.TheVariants.{Busy}
 use Rattle.task_file.specs.declared.state.State.{State}
 use Rattle.task_file.specs.declared.view.DriveView.{DriveView}
-use Rattle.task_file.specs.Registers.{cylinder_of, size_at, mode_at}
+use Rattle.task_file.specs.Registers.{cylinder_of}
+use Rattle.task_file.specs.Sdh.{size_at, mode_at}
 use Rattle.task_file.specs.Aborting.{aborts}
 use Rattle.task_file.specs.Moving.{moved_length}
-use Rattle.task_file.specs.State.{with_buffer}
 use Rattle.task_file.specs.Attempts.{outcome_of, verdict_of, read_by, read_judged, write_judged, format_judged}
 use Rattle.controller.specs.Model.{view_of}
 use Rattle.controller.specs.Turns.{Turned, turned, once_there, read_act, write_act, format_act, ids_asked, worked}
@@ -39,7 +39,7 @@ able_none Test r a no_test = no_test refl
 able_none j r a no_test = cc
 
 -- which is ready, and has the cylinder
-pub able_job : (j : Job) (r : Registers) (v : DriveView) → Able (under_way (Busy j)) r (Some v) → (j ≡ Test → ⊥) → (v.ready ≡ true) × (cylinder_of r < v.cylinders)
+pub able_job : (j : Job) (r : Registers) (v : DriveView) → Able (under_way (Busy j)) r (Some v) → (j ≡ Test → ⊥) → (v.ready ≡ true) × (cylinder_of r < v.geometry.cylinders)
 unfolding aborts
 able_job Test r v a no_test = absurd (no_test refl)
 able_job j r v a no_test = (grind arith, grind (arith, nat_tests))
@@ -59,22 +59,20 @@ unfolding stepped_out
 stepped_lower d ready above = grind (arith, nat_tests)
 
 -- a step toward a cylinder that the drive has is one step nearer
-nearer_by_one : (d : DriveModel) (target : ℕ) → d.ready ≡ true → target < d.cylinders → (d.cylinder ≡ target → ⊥) → apart (nearer d target).cylinder target + 1 ≤ apart d.cylinder target
+nearer_by_one : (d : DriveModel) (target : ℕ) → d.ready ≡ true → target < d.geometry.cylinders → (d.cylinder ≡ target → ⊥) → apart (nearer d target).cylinder target + 1 ≤ apart d.cylinder target
 unfolding stepped_in stepped_out
 nearer_by_one d target ready has ne = grind (arith, nat_tests)
 
 -- ---- turns that are left
 -- at most how many turns a phase has left, with the head at one cylinder and the registers at another
 abbrev pub left_in : Phase → ℕ → ℕ → ℕ
-left_in Rest at target = 0
 left_in (Busy Test) at target = 1
 left_in (Busy (Restore steps)) at target = at + 1
 left_in (Busy Seek) at target = apart at target + 1
 left_in (Busy (Read j)) at target = apart at target + (9 - j.attempts)
 left_in (Busy (Write j)) at target = apart at target + (9 - j.attempts)
 left_in (Busy Format) at target = apart at target + 1
-left_in (Offering m p) at target = 0
-left_in (Taking l p) at target = 0
+left_in p at target = 0
 
 -- ---- what a turn leads to
 -- the state after it, at a drive seen as v with its head at a cylinder, where n turns were left
@@ -149,7 +147,7 @@ module _ (on : Selection) (s : State) (d : DriveModel) where
   advances (Read j) phase able counted =
       let number = s.registers.number in
       let size = size_at s.registers.sdh in
-      let act = read_on v (with_buffer s (handed_over d on.head number size s.buffer)) on d.cylinder j able counted (read_answer d on.head number size) in
+      let act = read_on v (record s { buffer = handed_over d on.head number size s.buffer }) on d.cylinder j able counted (read_answer d on.head number size) in
       seeking (Read j) (read_act s j on d) phase (λ e. cc) able counted (λ e h. omega arith)
       (record { same_sdh = act.same_sdh; able = act.able; counted = act.counted; fewer = act.fewer }) (grind arith)
   advances (Write j) phase able counted =

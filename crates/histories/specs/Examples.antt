@@ -19,16 +19,14 @@ use Rattle.controller.specs.Runs.{runs}
 abbrev pub example_drive : ℕ → ℕ → List Sector → (ℕ → Showing) → DriveModel
 example_drive capacity cylinder sectors shows =
     record {
-      cylinders = 4;
-      heads = 1;
-      capacity = capacity;
+      geometry = record { cylinders = 4; heads = 1; capacity = capacity };
       ready = true;
       protected = false;
       cylinder = cylinder;
       track = λ c h. cond (c == 0 && h == 0) sectors [];
       outlook = λ c h n k. shows k;
       memory = [];
-      layout = λ c change m. m;
+      layout = λ change m. m;
     }
 
 -- a good sector of 128 zeros, written under a code

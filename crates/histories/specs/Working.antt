@@ -4,7 +4,7 @@ use Rattle.drive.specs.declared.answers.ReadError.TheVariants as read_error
 use Rattle.drive.specs.declared.answers.WriteError.TheVariants as write_error
 use Rattle.drive.specs.Model.{DriveModel}
 use Rattle.drive.specs.Calls.{done, read_answer, write_answer, format_answer}
-use Rattle.task_file.specs.declared.bay.Selection.{Selection}
+use Rattle.task_file.specs.declared.sdh.Selection.{Selection}
 use Rattle.task_file.specs.declared.registers.Registers.{Registers}
 use Rattle.task_file.specs.declared.command.Command.{Command}
 use Rattle.task_file.specs.declared.command.Command.TheVariants as command
@@ -12,10 +12,10 @@ use Rattle.task_file.specs.declared.state.Job.{Job}
 use Rattle.task_file.specs.declared.state.Job.TheVariants.{Test, Restore, Seek, Read, Write, Format}
 use Rattle.task_file.specs.declared.state.Load.TheVariants.{Sector, Track}
 use Rattle.task_file.specs.declared.state.Phase.{Phase}
-use Rattle.task_file.specs.declared.state.Phase.TheVariants.{Rest, Busy, Offering, Taking}
+use Rattle.task_file.specs.declared.state.Phase.TheVariants.{Busy, Offering, Taking}
 use Rattle.task_file.specs.declared.state.State.{State}
 use Rattle.task_file.specs.declared.view.DriveView.{DriveView}
-use Rattle.task_file.specs.Registers.{size_at, selected}
+use Rattle.task_file.specs.Sdh.{size_at, selected}
 use Rattle.task_file.specs.Aborting.{aborts}
 use Rattle.task_file.specs.Moving.{moved_length, load_is_long}
 use Rattle.controller.specs.declared.call.Call.{Call}
@@ -34,8 +34,6 @@ turns k b = runs b (turn_calls k)
 
 -- the command that a phase belongs to; at rest and in Test there is none that could be aborted
 abbrev pub under_way : Phase → Option Command
-under_way Rest = None
-under_way (Busy Test) = None
 under_way (Busy (Restore steps)) = Some command.Restore
 under_way (Busy Seek) = Some command.Seek
 under_way (Busy (Read j)) = Some (command.Read j.mode)
@@ -44,6 +42,7 @@ under_way (Busy Format) = Some command.Format
 under_way (Offering m at) = Some (command.Read m)
 under_way (Taking (Sector m) at) = Some (command.Write m)
 under_way (Taking Track at) = Some command.Format
+under_way p = None
 
 -- the command under way would not be aborted if it were given now
 abbrev pub Able : Option Command → Registers → Option DriveView → Type 0
@@ -52,15 +51,12 @@ Able (Some c) r v = aborts c r v ≡ false
 
 -- no tenth attempt, no step past 1,024, no byte past the sector
 abbrev pub Counted : Phase → Registers → Type 0
-Counted Rest r = Unit {0}
-Counted (Busy Test) r = Unit {0}
 Counted (Busy (Restore steps)) r = steps ≤ 1024
-Counted (Busy Seek) r = Unit {0}
 Counted (Busy (Read j)) r = j.attempts ≤ 8
 Counted (Busy (Write j)) r = j.attempts ≤ 8
-Counted (Busy Format) r = Unit {0}
 Counted (Offering m at) r = at < moved_length (size_at r.sdh) m.long
 Counted (Taking l at) r = at < moved_length (size_at r.sdh) (load_is_long l)
+Counted p r = Unit {0}
 
 -- The invariant: what is under way can be done, and its counters are in range.
 pub record InOrder (b : ControllerModel) : Type 0 where
@@ -71,22 +67,18 @@ pub record InOrder (b : ControllerModel) : Type 0 where
 -- What a job asks of the selected drive is not turned away: no attempt is answered that the drive is not ready, no write
 -- attempt that it is protected, and a format is done.
 abbrev pub DoneAsAsked : Job → State → Selection → DriveModel → Type 0
-DoneAsAsked Test s at d = Unit {0}
-DoneAsAsked (Restore steps) s at d = Unit {0}
-DoneAsAsked Seek s at d = Unit {0}
 DoneAsAsked (Read j) s at d = read_answer d at.head s.registers.number (size_at s.registers.sdh) ≢ Err read_error.NotReady
 DoneAsAsked (Write j) s at d =
     (write_answer d at.head s.registers.number (size_at s.registers.sdh) ≢ Err write_error.NotReady)
     × (write_answer d at.head s.registers.number (size_at s.registers.sdh) ≢ Err write_error.Protected)
 DoneAsAsked Format s at d = format_answer d at.head (ids_asked s) (size_at s.registers.sdh) ≡ done
+DoneAsAsked j s at d = Unit {0}
 
 -- the same of what a phase does; where no drive is selected, only Test is under way
 abbrev pub NothingTurnedAway : Phase → Option Selection → ControllerModel → Type 0
-NothingTurnedAway Rest sel b = Unit {0}
 NothingTurnedAway (Busy j) (Some at) b = DoneAsAsked j b.state at (b.drives at.bay)
 NothingTurnedAway (Busy j) None b = j ≡ Test
-NothingTurnedAway (Offering m at) sel b = Unit {0}
-NothingTurnedAway (Taking l at) sel b = Unit {0}
+NothingTurnedAway p sel b = Unit {0}
 
 -- ---- what is promised of every history
 -- it leads to a controller that is in order

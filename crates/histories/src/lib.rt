@@ -14,4 +14,4 @@ mod running;
 pub use drives::drives_do_as_asked;
 pub use examples::examples_stand;
 pub use finishing::finish;
-pub use running::run;
+pub use running::make_calls;

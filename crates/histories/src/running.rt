@@ -1,7 +1,7 @@
 //! A list of calls, made one after another.
 ghost use Rattle.std.specs.Prelude.{◌≡◌, MatchResult};
 ghost use Rattle.controller.specs.Controller.{model_of};
-ghost use Rattle.controller.specs.Runs.{runs, answers, Continues};
+ghost use Rattle.controller.specs.Runs.{Ran};
 
 use controller::{Answer, Call, Controller, make_call};
 use drive::Drive;
@@ -10,20 +10,13 @@ use std::alloc::{AllocError, Global};
 /// Makes the calls, and hands back every answer. Room for the answers is had first: where memory is
 /// wanting, no call is made.
 #[tactic(auto, using(controller::proofs::Runs::steps))]
-pub fn run<D: Drive>(
+pub fn make_calls<D: Drive>(
     controller: &mut Controller<D>,
     heap: Global,
     calls: &[Call],
 ) -> Result<Vec<Answer>, AllocError>
-    ensures answers { MatchResult result
-        (λ v. v.items ≡ answers (model_of D.meaning controller.old) calls.now)
-        (λ _. controller.new ≡ controller.old) }
-    ensures after { MatchResult result
-        (λ _. model_of D.meaning controller.new
-        ≡ runs (model_of D.meaning controller.old) calls.now)
-        (λ _. controller.new ≡ controller.old) }
-    ensures history { MatchResult result
-        (λ _. Continues (model_of D.meaning controller.old) calls.now
+    ensures { MatchResult result
+        (λ v. Ran (model_of D.meaning controller.old) calls.now v.items
         (model_of D.meaning controller.new))
         (λ _. controller.new ≡ controller.old) }
 {

@@ -1,22 +1,21 @@
--- Reading and writing the sector in a slot.
-use Rattle.std.specs.Prelude.{◌≡◌, ℕ, ◌+◌, ◌*◌, ◌≤◌, false, cond, List, ◌++◌, length, drop, Some, Option, ◌==◌, refl}
-use Rattle.std.proofs.Common.{sym, ap, ap₂, ◌∙◌, arith}
+-- The sector in a slot, and what a read hands over of it.
+use Rattle.std.proofs.Common.{◌≡◌, ℕ, ◌+◌, ◌*◌, ◌≤◌, false, List, ◌++◌, length, drop, sym, refl, ap, ap₂, ◌∙◌, arith}
+use Rattle.std.proofs.lemmas.Nat.{row_fits}
 use Rattle.sector.specs.Bits.{inverted}
 use Rattle.sector.specs.Sizes.{bytes_of}
 use Rattle.sector.specs.declared.size.SizeCode.{SizeCode}
 use Rattle.sector.proofs.Inverted.{inverted_none}
 use Rattle.drive.specs.declared.buffer.SectorBuffer.{SectorBuffer}
-use Rattle.drive.specs.Model.{Sector, no_sector, intact}
-use Rattle.drive.specs.Calls.{on_slot, delivered}
-use Rattle.image.specs.Holds.{length_part, apart}
+use Rattle.drive.specs.Model.{intact}
+use Rattle.drive.specs.Calls.{delivered}
+use Rattle.image.specs.Holds.{length_part}
 use Rattle.image.specs.Parts.{part}
-use Rattle.image.specs.Record.{count_in, size_in, mark_at, bad_mark, sector_at, track_in, Slot}
-use Rattle.image.proofs.Tracks.{held_at}
+use Rattle.image.specs.Record.{count_in, size_in, sector_at, Slot}
 
 module _ (r : List ℕ) (size : SizeCode) (k : ℕ) (s : Slot r size k) where
   -- the slot's bytes and check bytes lie in the record
   pub bytes_fit : (386 + k * bytes_of size) + bytes_of size ≤ length r
-  bytes_fit = omega (arith, s.room, apart k (count_in r) (bytes_of size) s.below)
+  bytes_fit = omega (arith, s.room, row_fits k (bytes_of size) (count_in r) (bytes_of size) s.below (omega arith))
 
   pub check_fits : (130 + 4 * k) + 4 ≤ 386
   check_fits = omega (arith, s.below, s.few)
@@ -38,9 +37,3 @@ module _ (r : List ℕ) (size : SizeCode) (k : ℕ) (s : Slot r size k) where
       ap₂ (λ (t : List ℕ) (m : ℕ). t ++ drop m b.bytes) (ex ∙ sym sector_bytes ∙ sym (inverted_none (λ i. false) bs (λ i h. refl))) (en ∙ sym sector_long) in
       let f : ys ≡ inverted (λ i. false) (part (130 + 4 * k) 4 r) = ey ∙ sym (inverted_none (λ i. false) _ (λ i h. refl)) in
       λ j. record { bytes = e j; check = f j }
-
--- what an attempt comes to where the sector meant is in slot k
-pub on_found : {A : Type 0} (r : List ℕ) (size : SizeCode) (k : ℕ) (o : Option ℕ) (ss : List Sector) (missing marked : A) (good : ℕ → A) → o ≡ Some k → ss ≡ track_in r → Slot r size k → on_slot o ss missing marked good ≡ cond (mark_at r k == bad_mark) marked (good k)
-on_found r size k o ss missing marked good eo es s =
-    ap₂ (λ (x : Option ℕ) (y : List Sector). on_slot x y missing marked good) eo es
-    ∙ ap (λ (x : Sector). cond x.bad marked (good k)) (held_at r k no_sector s.whole s.below)

@@ -1,11 +1,8 @@
 pub mod Windows
 pub mod Tracks
-pub mod Pairs
 pub mod Attempts
 pub mod Frames
 pub mod Pieces
 pub mod Formats
 pub mod Writes
-pub mod Cuts
 pub mod Calls
-pub mod FormatCall

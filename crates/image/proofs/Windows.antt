@@ -1,8 +1,9 @@
 -- Parts of a list that is written over.
-use Rattle.std.specs.Prelude.{◌≡◌, ℕ, ◌+◌, ◌-◌, ◌<◌, ◌≤◌, ◌⊎◌, List, [], ◌∷◌, ◌++◌, length, take, drop, slice_index_or, slice_set, refl}
+use Rattle.std.specs.Prelude.{◌≡◌, ℕ, ◌+◌, ◌-◌, ◌<◌, ◌≤◌, ◌⊎◌, List, ◌++◌, length, take, drop, get_or}
 use Rattle.std.proofs.Common.{sym, ap, ◌∙◌, arith}
 use borrow.Rule.Slice.PartMut.{put_mid, put_same}
-use Rattle.std.proofs.lemmas.List.{places, same_lists, length-take, length-drop, length-append, drop-drop, take_at, drop_at, get_or-take, get_or-drop}
+use Rattle.std.proofs.lemmas.List.{places, same_lists, length-take, length-drop, length-append, drop-drop, get_or-take, get_or-drop}
+use Rattle.drive.specs.Bounds.{Bytes}
 use Rattle.image.specs.Holds.{length_part}
 use Rattle.image.specs.Parts.{part, over}
 
@@ -10,11 +11,15 @@ pub length_over : (a : ℕ) (ys xs : List ℕ) → a + length ys ≤ length xs �
 length_over a ys xs h = simp (length-append, length-take, length-drop) (omega arith)
 
 -- what stands outside of what is written stays
-pub get_or-over_outside : (a : ℕ) (ys xs : List ℕ) (k d : ℕ) → a + length ys ≤ length xs → (k < a) ⊎ (a + length ys ≤ k) → slice_index_or (over a ys xs) k d ≡ slice_index_or xs k d
+pub get_or-over_outside : (a : ℕ) (ys xs : List ℕ) (k d : ℕ) → a + length ys ≤ length xs → (k < a) ⊎ (a + length ys ≤ k) → get_or (over a ys xs) k d ≡ get_or xs k d
 get_or-over_outside a ys xs k d h w = grind (arith, places)
 
-pub get_or-over_inside : (a : ℕ) (ys xs : List ℕ) (k d : ℕ) → a + length ys ≤ length xs → k < length ys → slice_index_or (over a ys xs) (a + k) d ≡ slice_index_or ys k d
+pub get_or-over_inside : (a : ℕ) (ys xs : List ℕ) (k d : ℕ) → a + length ys ≤ length xs → k < length ys → get_or (over a ys xs) (a + k) d ≡ get_or ys k d
 get_or-over_inside a ys xs k d h u = grind (arith, places)
+
+-- nothing but bytes are written over bytes
+pub bytes_over : (a : ℕ) (ys xs : List ℕ) → a + length ys ≤ length xs → Bytes ys → Bytes xs → Bytes (over a ys xs)
+bytes_over a ys xs fits by bx i = grind (arith, places, by, bx)
 
 -- a part beside what is written
 pub part_over_other : (a : ℕ) (ys xs : List ℕ) (i n : ℕ) → a + length ys ≤ length xs → (i + n ≤ a) ⊎ (a + length ys ≤ i) → part i n (over a ys xs) ≡ part i n xs
@@ -49,14 +54,6 @@ over_back a n xs h =
     ∙ ap (λ (k : ℕ). put_mid a k xs (part a n xs)) m
     ∙ put_same a n xs
 
--- a part of two lists joined
-pub part_append_left : (n : ℕ) (xs ys : List ℕ) → length xs ≡ n → part 0 n (xs ++ ys) ≡ xs
-part_append_left n xs ys h = take_at xs ys n h
-
-pub part_append_right : (n i m : ℕ) (xs ys : List ℕ) → length xs ≡ n → part (n + i) m (xs ++ ys) ≡ part i m ys
-part_append_right n i m xs ys h =
-    ap (take m) (sym (drop-drop i n (xs ++ ys)) ∙ ap (drop i) (drop_at xs ys n h))
-
 -- a write over the front of the part from a to e
 pub put_front : (a e : ℕ) (ys xs : List ℕ) → a ≤ e → e ≤ length xs → length ys ≤ e - a → put_mid a (e - a) xs (over 0 ys (part a (e - a) xs)) ≡ over a ys xs
 put_front a e ys xs h l m =
@@ -64,11 +61,5 @@ put_front a e ys xs h l m =
     (length_over 0 ys (part a (e - a) xs) (omega (arith, length_part a (e - a) xs (omega arith))) ∙ length_part a (e - a) xs (omega arith)) h
     ∙ same_lists _ _ (simp (length-take, length-drop, length-append) (omega arith)) (λ k d l. grind (arith, places))
 
--- two elements
-pub set_two : (x y : ℕ) (xs : List ℕ) → 2 ≤ length xs → slice_set (slice_set xs 0 x) 1 y ≡ over 0 (x ∷ y ∷ []) xs
-set_two x y [] h = absurd (omega arith)
-set_two x y (a ∷ []) h = absurd (omega arith)
-set_two x y (a ∷ (b ∷ xs)) h = refl
-
-pub get_d_part : (a n : ℕ) (xs : List ℕ) (i d : ℕ) → i < n → slice_index_or (part a n xs) i d ≡ slice_index_or xs (a + i) d
+pub get_d_part : (a n : ℕ) (xs : List ℕ) (i d : ℕ) → i < n → get_or (part a n xs) i d ≡ get_or xs (a + i) d
 get_d_part a n xs i d h = get_or-take n (drop a xs) i d h ∙ get_or-drop a xs i d

@@ -2,5 +2,4 @@ pub mod Parts
 pub mod Record
 pub mod Image
 pub mod Meaning
-pub mod Refusals
 pub mod Holds

@@ -6,4 +6,4 @@ use Rattle.image.specs.Image.{image_model}
 
 -- the meaning of an image, from its fields
 abbrev pub model_of : {M : Type 0} {g : Ghosts M} → Image M g → DriveModel
-model_of s = image_model s.geometry.cylinders s.geometry.heads s.geometry.capacity s.protected s.cylinder s.memory.items
+model_of s = image_model s.geometry s.protected s.cylinder s.memory.items

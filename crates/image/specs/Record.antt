@@ -1,11 +1,9 @@
 -- A track record: a count, a size code, 64 pairs of number and mark, 64 times four check bytes, and the sectors' bytes, in order.
 -- So pair i stands at 2 + 2 i, check bytes i at 130 + 4 i, and the bytes of sector i at 386 + i times the size.
-use Rattle.std.specs.Prelude.{◌≡◌, ℕ, zero, suc, ◌+◌, ◌-◌, ◌*◌, ◌<◌, ◌≤◌, Bool, true, cond, ◌&&◌, ◌||◌, List, [], ◌∷◌, map, length, drop, replicate, ◌==◌, nat_le, slice_index}
-use Rattle.std.specs.List.{range_with_len, flat_map}
-use Rattle.std.specs.Simd.{first_chunks}
-use Rattle.sector.specs.Sizes.{bytes_of, number_of}
+use Rattle.std.specs.Prelude.{◌≡◌, ℕ, ◌+◌, ◌-◌, ◌*◌, ◌<◌, ◌≤◌, Bool, true, cond, ◌&&◌, ◌||◌, List, [], ◌∷◌, map, length, replicate, ◌==◌, nat_le, slice_index}
+use Rattle.std.specs.List.{list_all, range_with_len, flat_map}
+use Rattle.sector.specs.Sizes.{bytes_of, number_of, size_numbered}
 use Rattle.sector.specs.declared.size.SizeCode.{SizeCode}
-use Rattle.sector.specs.declared.size.SizeCode.TheVariants.{Bytes256, Bytes512, Bytes1024, Bytes128}
 use Rattle.drive.specs.declared.answers.SectorId.{SectorId}
 use Rattle.drive.specs.Model.{Sector}
 use Rattle.image.specs.Parts.{part, over}
@@ -19,6 +17,10 @@ count_in r = slice_index r 0
 abbrev pub code_in : List ℕ → ℕ
 code_in r = slice_index r 1
 
+-- the size of its sectors
+abbrev pub size_in : List ℕ → SizeCode
+size_in r = size_numbered (code_in r)
+
 -- the number of sector i
 abbrev pub number_at : List ℕ → ℕ → ℕ
 number_at r i = slice_index r (2 + 2 * i)
@@ -27,43 +29,27 @@ number_at r i = slice_index r (2 + 2 * i)
 abbrev pub mark_at : List ℕ → ℕ → ℕ
 mark_at r i = slice_index r (3 + 2 * i)
 
--- the size code of a number up to 3
-abbrev pub size_numbered : ℕ → SizeCode
-size_numbered zero = Bytes256
-size_numbered (suc zero) = Bytes512
-size_numbered (suc (suc zero)) = Bytes1024
-size_numbered (suc (suc (suc n))) = Bytes128
-
--- the size of a record's sectors
-abbrev pub size_in : List ℕ → SizeCode
-size_in r = size_numbered (code_in r)
-
--- a mark of 80h is bad, and 0 is good
-abbrev pub bad_mark : ℕ
-bad_mark = 128
-
--- the pairs of number and mark of the sectors
+-- the pairs of number and mark of its sectors
 abbrev pub pairs_in : List ℕ → List (List ℕ)
-pairs_in r = first_chunks 2 (count_in r) (drop 2 r)
+pairs_in r = map (λ i. number_at r i ∷ mark_at r i ∷ []) (range_with_len 0 (count_in r))
 
 -- a pair with this number
 abbrev pub is_named : ℕ → List ℕ → Bool
 is_named number pair = slice_index pair 0 == number
 
+-- a mark of 80h is bad, and 0 is good
+abbrev pub bad_mark : ℕ
+bad_mark = 128
+
 -- a pair whose mark is one
 abbrev pub is_marked : List ℕ → Bool
 is_marked pair = slice_index pair 1 == 0 || slice_index pair 1 == bad_mark
-
--- the n marks from sector i on are marks
-abbrev pub marks_fit : List ℕ → ℕ → ℕ → Bool
-marks_fit r i zero = true
-marks_fit r i (suc n) = (mark_at r i == 0 || mark_at r i == bad_mark) && marks_fit r (i + 1) n
 
 -- a record with a count from 1 to 64, a size code, room for so many sectors, and nothing but marks where marks are used
 abbrev pub formatted : List ℕ → Bool
 formatted r =
     (nat_le 1 (count_in r) && nat_le (count_in r) 64)
-    && (nat_le (code_in r) 3 && (nat_le (count_in r * bytes_of (size_in r)) (length r - 386) && marks_fit r 0 (count_in r)))
+    && (nat_le (code_in r) 3 && (nat_le (count_in r * bytes_of (size_in r)) (length r - 386) && list_all is_marked (pairs_in r)))
 
 -- sector i
 abbrev pub sector_at : List ℕ → ℕ → Sector

@@ -1,6 +1,7 @@
 //! Images of any make, over sector memory that they own.
-ghost use Rattle.std.specs.Prelude.{◌≡◌, ◌+◌, ◌*◌, ◌<◌, ◌≤◌, length};
-ghost use Rattle.drive.specs.Bounds.{Bytes};
+ghost use Rattle.std.specs.Prelude.{◌<◌, length};
+ghost use Rattle.drive.specs.Bounds.{measures, Bytes};
+ghost use Rattle.image.specs.Image.{Admissible};
 
 use super::make::{Floppy, Make, Winchester};
 use drive::Geometry;
@@ -17,12 +18,9 @@ pub struct Image<M: Make> {
     cylinder: u16,
     memory: Vec<u8>,
     make: PhantomData<M>,
-    ghost few: { (geometry.cylinders ≤ M.MOST_CYLINDERS) × (geometry.heads ≤ M.MOST_HEADS) },
+    ghost fits: { Admissible (measures M.MOST_CYLINDERS M.MOST_HEADS) geometry
+        (length memory.items) },
     ghost inside: { cylinder < geometry.cylinders },
-    ghost headed: { 1 ≤ geometry.heads },
-    ghost small: { geometry.capacity ≤ 65536 },
-    ghost whole: { length memory.items
-        ≡ (geometry.cylinders * geometry.heads) * (386 + geometry.capacity) },
     ghost bytes: { Bytes memory.items },
 }
 

@@ -1,6 +1,6 @@
 //! Track records: a count, a size code, 64 pairs of number and mark, 64 times four check bytes, and
 //! the sectors' bytes, in order.
-ghost use Rattle.std.specs.Prelude.{◌≡◌, ℕ, ◌+◌, ◌*◌, ◌<◌, ◌≤◌, true, false, length, take, IfSome, MatchOption, Err, if◌then◌else◌, nat_eq, slice_set};
+ghost use Rattle.std.specs.Prelude.{◌≡◌, ℕ, ◌+◌, ◌*◌, ◌<◌, ◌≤◌, true, false, length, take, IfSome, MatchOption, Err, if◌then◌else◌, nat_eq};
 ghost use Rattle.std.specs.List.{flat_map, list_all, position_from};
 ghost use Rattle.std.specs.Option.{option_map};
 ghost use Rattle.drive.specs.Model.{slot_of, intact};
@@ -8,7 +8,7 @@ ghost use Rattle.drive.specs.Bounds.{Bytes};
 ghost use Rattle.drive.specs.Calls.{delivered, done};
 ghost use Rattle.drive.specs.declared.answers.ReadError.TheVariants as read_error;
 ghost use Rattle.drive.specs.declared.answers.WriteError.TheVariants as write_error;
-ghost use Rattle.sector.specs.Sizes.{bytes_of, number_of};
+ghost use Rattle.sector.specs.Sizes.{bytes_of};
 ghost use Rattle.image.specs.Record.{formatted, size_in, is_marked, is_named, pairs_in, mark_at, bad_mark, sector_at, track_in, Slot, with_sector, pair_of, with_format};
 ghost use Rattle.image.specs.Parts.{over};
 
@@ -35,13 +35,13 @@ fn sectors(track: &[u8]) -> Option<(SizeCode, &[[u8; 2]])>
         (λ held. (formatted track.now ≡ true) × (held.0 ≡ size_in track.now)
         × (held.1.now ≡ pairs_in track.now)) }
 {
-    let size = SizeCode::try_from(track[1]).ok()?;
+    let size = SizeCode::from_code(track[1]);
     let count = track[0] as usize;
-    if count < 1 || count > MOST_SECTORS || count * size.bytes() > track.len() - HEADER {
+    if count < 1 || count > MOST_SECTORS || track[1] > 3 {
         return None;
     }
     let (pairs, _) = track[2..2 + 2 * count].as_chunks::<2>();
-    if marks_fit(pairs) {
+    if count * size.bytes() <= track.len() - HEADER && marks_fit(pairs) {
         Some((size, pairs))
     } else {
         None
@@ -50,8 +50,7 @@ fn sectors(track: &[u8]) -> Option<(SizeCode, &[[u8; 2]])>
 
 // Where the first of these pairs with the number stands.
 fn first_named(pairs: &[[u8; 2]], number: u8) -> Option<usize>
-    ensures place { result ≡ position_from (is_named number) 0 pairs.now }
-    ensures within { IfSome result (λ k. k < length pairs.now) }
+    ensures { result ≡ position_from (is_named number) 0 pairs.now }
 {
     pairs.iter().position(|[named, _]| *named == number)
 }
@@ -166,15 +165,6 @@ fn write_checks(checks: &mut [u8], ids: &[SectorId], check: [u8; 4])
     }
 }
 
-// Writes the count and the size code.
-fn write_head(track: &mut [u8], count: usize, size: SizeCode)
-    requires { (2 ≤ length track.old) × (count ≤ 64) }
-    ensures { track.new ≡ slice_set (slice_set track.old 0 count) 1 (number_of size) }
-{
-    track[0] = count as u8;
-    track[1] = u8::from(size);
-}
-
 // Makes the record one of sectors with these IDs, of this size, with zero bytes and these check
 // bytes.
 pub(crate) fn format_track(track: &mut [u8], ids: &[SectorId], size: SizeCode, check: [u8; 4])
@@ -182,7 +172,8 @@ pub(crate) fn format_track(track: &mut [u8], ids: &[SectorId], size: SizeCode, c
     ensures after { track.new ≡ with_format ids.now size check track.old }
     ensures bytes { Bytes track.new }
 {
-    write_head(track, ids.len(), size);
+    let head = [ids.len() as u8, u8::from(size)];
+    track[..2].copy_from_slice(&head);
     write_pairs(&mut track[2..130], ids);
     write_checks(&mut track[130..HEADER], ids, check);
     let used = ids.len() * size.bytes();

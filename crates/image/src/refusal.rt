@@ -1,7 +1,6 @@
 //! Why an image is refused, and what comes back of it.
 ghost use Rattle.std.specs.Prelude.{◌≡◌};
-ghost use Rattle.image.specs.Image.{refusal_number};
-ghost use Rattle.image.specs.Refusals.{bay_of};
+ghost use Rattle.image.specs.Image.{refusal_number, bay_of};
 
 use drive::{Drive, EmptyBay};
 use either::Either;

@@ -8,4 +8,4 @@ use Rattle.image.specs.Meaning.{model_of}
 
 -- the image has these measures, is unprotected and at cylinder 0, over nothing but zeros
 abbrev pub IsBlank : {M : Type 0} {ghosts : Ghosts M} → Geometry → Image M ghosts → Type 0
-IsBlank g image = model_of image ≡ image_model g.cylinders g.heads g.capacity false 0 (replicate (memory_length g) 0)
+IsBlank g image = model_of image ≡ image_model g false 0 (replicate (memory_length g) 0)

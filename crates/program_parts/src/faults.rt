@@ -1,12 +1,13 @@
 //! Faults that the program lays over a drive.
 ghost use Rattle.std.specs.Prelude.{◌≡◌, IfOk, map};
 ghost use Rattle.fault_table.specs.Adding.{all_added};
-ghost use Rattle.program_parts.specs.Laying.{all_laid, entry_for};
+ghost use Rattle.fault_table.specs.Faults.{entries_in, drive_under};
+ghost use Rattle.program_parts.specs.Laying.{burst_by_rule, wanted};
 
 use anyhow::anyhow;
-use cue_sheet::burst_of;
 use drive::{Drive, Place};
-use fault_table::{AddRefusal, FaultEntry, FaultKind, FaultTable};
+use fault_table::{FaultEntry, FaultKind, FaultTable};
+use sector::Burst;
 
 /// A kind of fault, and how many attempts in a row meet it.
 #[derive(Clone, Copy)]
@@ -15,42 +16,18 @@ pub struct Stretch {
     pub attempts: u16,
 }
 
-// Lays the faults of one record over its place, as far as the table has room, and tells of each;
-// tells how many.
-fn lay_at<D: Drive>(
-    rt: &HostRuntime,
-    table: &mut FaultTable<D>,
-    index: usize,
-    place: Place,
-    stretches: &[Stretch],
-) -> anyhow::Result<usize>
-    ensures entries { IfOk result
-        (λ _. table.new.faults.items
-        ≡ all_added table.old.faults.items (map (entry_for index place) stretches.now)) }
-    ensures drive { table.new.drive ≡ table.old.drive }
+// The burst that the rule has for a record.
+fn burst_of(index: usize) -> Burst
+    ensures { result ≡ burst_by_rule index }
 {
-    let mut laid = 0usize;
-    for stretch in stretches {
-        let entry = FaultEntry {
-            place,
-            kind: stretch.kind,
-            burst: burst_of(index),
-            attempts: stretch.attempts,
-        };
-        match table.add(entry) {
-            Ok(()) => {
-                laid = laid.saturating_add(1);
-                println!(rt; "fault at record {index:>3}: {entry}")?;
-            }
-            Err(AddRefusal::TableFull) => {}
-            Err(AddRefusal::OutOfRange) => return Err(anyhow!("a fault was refused")),
-        }
+    Burst {
+        first: (index % 4096 * 409 % 4124) as u16,
+        pattern: (2 * (index % 16) + 1) as u8,
     }
-    Ok(laid)
 }
 
-/// Lays the faults of the records at these places, as far as the table has room: record r meets
-/// those of row r modulo 4.
+/// Lays the faults of the records at these places, as far as the table has room, and tells of each:
+/// record r meets those of row r modulo 4.
 pub fn lay<D: Drive>(
     rt: &HostRuntime,
     table: &mut FaultTable<D>,
@@ -58,17 +35,32 @@ pub fn lay<D: Drive>(
     rows: [&[Stretch]; 4],
 ) -> anyhow::Result<()>
     ensures entries { IfOk result
-        (λ _. table.new.faults.items
-        ≡ all_laid (map (λ row. row.now) rows.entry) 0 places.now table.old.faults.items) }
-    ensures drive { table.new.drive ≡ table.old.drive }
+        (λ _. entries_in table.new
+        ≡ all_added (entries_in table.old) (wanted (map (λ row. row.now) rows.entry) places.now)) }
+    ensures drive { drive_under table.new ≡ drive_under table.old }
 {
-    let mut laid = 0usize;
-    let mut wanted = 0usize;
+    let mut records = Vec::new(rt.alloc());
+    let mut entries = Vec::new(rt.alloc());
     for (index, place) in places.iter().enumerate() {
-        let stretches = rows[index % 4];
-        laid = laid.saturating_add(lay_at(rt, table, index, *place, stretches)?);
-        wanted = wanted.saturating_add(stretches.len());
+        for stretch in rows[index % 4].iter().copied() {
+            let entry = FaultEntry {
+                place: *place,
+                kind: stretch.kind,
+                burst: burst_of(index),
+                attempts: stretch.attempts,
+            };
+            if !entry.is_in_range() {
+                return Err(anyhow!("a fault was refused"));
+            }
+            records.push(index)?;
+            entries.push(entry)?;
+        }
     }
+    let laid = table.add_all(&entries);
+    for (index, entry) in records.iter().zip(&entries).take(laid) {
+        println!(rt; "fault at record {index:>3}: {entry}")?;
+    }
+    let wanted = entries.len();
     println!(rt; "faults laid: {laid} of {wanted}")?;
     Ok(())
 }

@@ -1,6 +1,5 @@
 //! The sheet that comes in, and the script's comparison with it.
-ghost use Rattle.std.specs.Prelude.{◌≡◌, IfOk, None};
-ghost use Rattle.cue_sheet.specs.Lines.{differing_line};
+ghost use Rattle.std.specs.Prelude.{◌≡◌, IfOk};
 
 use anyhow::anyhow;
 use cue_sheet::{Comparison, count_lines};
@@ -20,7 +19,7 @@ pub fn read_sheet(rt: &HostRuntime) -> io::Result<Vec<u8>> {
 /// Compares the script with the sheet, and tells the first line that differs; that one does is an
 /// error.
 pub fn print_comparison(rt: &HostRuntime, sheet: &[u8], script: &[u8]) -> anyhow::Result<()>
-    ensures { IfOk result (λ _. differing_line sheet.now script.now ≡ None) }
+    ensures { IfOk result (λ _. sheet.now ≡ script.now) }
 {
     let lines = count_lines(script);
     println!(rt; "script: {lines} lines")?;

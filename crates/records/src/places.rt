@@ -2,12 +2,10 @@
 ghost use Rattle.std.specs.Prelude.{◌≡◌, ◌<◌, IfOk, IsErrOf};
 ghost use Rattle.records.specs.Places.{grid_of, records_in, place_of, ArePlaces};
 
+use super::bytes::RECORD;
 use drive::{Geometry, MOST_SECTORS, Place};
-use std::alloc::{AllocError, AllocFailed, Global};
+use std::alloc::Global;
 use thiserror::Error;
-
-/// The bytes of a record, which are those of its sector.
-pub const RECORD: usize = 512;
 
 /// A drive's cylinders and heads, and how many records each track has, numbered from 0.
 #[derive(Clone, Copy, PartialEq, Eq, Debug)]
@@ -25,26 +23,6 @@ pub enum PlacesError {
     TooLong,
     #[error("out of memory for the places of records")]
     OutOfMemory,
-}
-
-impl From<AllocError> for PlacesError {
-    ghost use Rattle.records.specs.declared.places.PlacesError.TheVariants.{OutOfMemory};
-
-    ghost from_gives = { λ _ r. r ≡ OutOfMemory };
-
-    fn from(_error: AllocError) -> PlacesError {
-        PlacesError::OutOfMemory
-    }
-}
-
-impl<T: Drop> From<AllocFailed<T>> for PlacesError {
-    ghost use Rattle.records.specs.declared.places.PlacesError.TheVariants.{OutOfMemory};
-
-    ghost from_gives = { λ _ r. r ≡ OutOfMemory };
-
-    fn from(_refused: AllocFailed<T>) -> PlacesError {
-        PlacesError::OutOfMemory
-    }
 }
 
 impl From<Geometry> for Grid {
@@ -88,7 +66,8 @@ impl Grid {
     {
         let mut places = Vec::new(heap);
         for index in 0..records {
-            places.push(self.place(index).ok_or(PlacesError::TooLong)?)?;
+            let place = self.place(index).ok_or(PlacesError::TooLong)?;
+            places.push(place).map_err(|_| PlacesError::OutOfMemory)?;
         }
         Ok(places)
     }

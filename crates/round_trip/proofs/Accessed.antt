@@ -11,9 +11,9 @@ use Rattle.task_file.specs.declared.state.State.{State}
 use Rattle.task_file.specs.declared.view.DriveView.{DriveView}
 use Rattle.task_file.specs.Registers.{register_numbered, stored}
 use Rattle.task_file.specs.Commands.{command_of}
-use Rattle.task_file.specs.State.{with_registers, is_busy}
+use Rattle.task_file.specs.State.{is_busy}
 use Rattle.task_file.specs.Beginning.{begun}
-use Rattle.task_file.specs.Moving.{put, put_in}
+use Rattle.task_file.specs.Moving.{put_at, put}
 use Rattle.controller.specs.declared.access.Refusal.TheVariants as refusal
 use Rattle.controller.specs.Access.{is_data, is_status, write_refusal, answered, unless_refused, at_register, begun_by, write_effect, write_answer_of, state_after_write}
 use Rattle.controller.specs.Runs.{write_as}
@@ -22,9 +22,9 @@ use Rattle.round_trip.specs.Events.{is_done}
 -- a write leaves the state, takes a byte, begins a command, or keeps a byte at rest
 pub data Accessed (s : State) (v : Option DriveView) (n byte : ℕ) (done : Bool) (t : State) : Type 0 where
   left_alone : (eqb n 0 && done) ≡ false → (eqb n 7 && done) ≡ false → t ≡ s → Accessed s v n byte done t
-  took : (l : Load) (p : ℕ) → s.phase ≡ Taking l p → (eqb n 0 && done) ≡ true → (eqb n 7 && done) ≡ false → t ≡ put s l p byte → Accessed s v n byte done t
+  took : (l : Load) (p : ℕ) → s.phase ≡ Taking l p → (eqb n 0 && done) ≡ true → (eqb n 7 && done) ≡ false → t ≡ put_at s l p byte → Accessed s v n byte done t
   began : (c : Command) → is_busy s.phase ≡ false → command_of byte ≡ Some c → (eqb n 0 && done) ≡ false → (eqb n 7 && done) ≡ true → t ≡ begun s c v → Accessed s v n byte done t
-  kept : (r : Register) → s.phase ≡ Rest → (eqb n 0 && done) ≡ false → (eqb n 7 && done) ≡ false → t ≡ with_registers s (stored s.registers r byte) → Accessed s v n byte done t
+  kept : (r : Register) → s.phase ≡ Rest → (eqb n 0 && done) ≡ false → (eqb n 7 && done) ≡ false → t ≡ record s { registers = stored s.registers r byte } → Accessed s v n byte done t
 
 module _ (s : State) (v : Option DriveView) (byte : ℕ) where
   abbrev done_by : Phase → Register → Option Command → Bool
@@ -32,12 +32,12 @@ module _ (s : State) (v : Option DriveView) (byte : ℕ) where
 
   -- registers 0, 2 to 6 (which all answer as the count does), and 7
   data_access : (n : ℕ) → eqb n 0 ≡ true → eqb n 7 ≡ false → (p : Phase) → s.phase ≡ p
-      → Accessed s v n byte (done_by p register.Data (command_of byte)) (unless_refused (write_refusal p register.Data (command_of byte)) s (put_in p s byte))
-  data_access n is_0 no_7 (Taking l at) e = took l at e (rw is_0 refl) (rw no_7 refl) refl
+      → Accessed s v n byte (done_by p register.Data (command_of byte)) (unless_refused (write_refusal p register.Data (command_of byte)) s (put s byte))
+  data_access n is_0 no_7 (Taking l at) e = took l at e (rw is_0 refl) (rw no_7 refl) (rw e refl)
   data_access n is_0 no_7 p e = left_alone (rw is_0 refl) (rw no_7 refl) refl
 
   kept_access : (n : ℕ) (r : Register) → eqb n 0 ≡ false → eqb n 7 ≡ false → (p : Phase) → s.phase ≡ p
-      → Accessed s v n byte (done_by p register.Count (command_of byte)) (unless_refused (write_refusal p register.Count (command_of byte)) s (with_registers s (stored s.registers r byte)))
+      → Accessed s v n byte (done_by p register.Count (command_of byte)) (unless_refused (write_refusal p register.Count (command_of byte)) s (record s { registers = stored s.registers r byte }))
   kept_access n r no_0 no_7 Rest e = kept r e (rw no_0 refl) (rw no_7 refl) refl
   kept_access n r no_0 no_7 p e = left_alone (rw no_0 refl) (rw no_7 refl) refl
 

@@ -4,17 +4,17 @@ use Rattle.std.proofs.lemmas.List.{take_at}
 use Rattle.sector.specs.declared.size.SizeCode.{SizeCode}
 use Rattle.sector.specs.declared.wrong_bits.Burst.{Burst}
 use Rattle.sector.specs.Sizes.{bytes_of}
-use Rattle.sector.specs.Bits.{BitSet, from_bit, inverted, OneBurst}
+use Rattle.sector.specs.Bits.{BitSet, from_bit, inverted, OneBurst, set_of}
 use Rattle.sector.proofs.Inverted.{length-inverted}
 use Rattle.check_code.specs.declared.mode.CheckMode.{CheckMode}
 use Rattle.check_code.specs.declared.mode.CheckMode.TheVariants.{Crc, Ecc}
 use Rattle.check_code.specs.Code.{width, check_bytes_of, difference_of}
 use Rattle.check_code.specs.Mode.{code_of}
-use Rattle.burst.specs.Search.{set_of, first_burst}
+use Rattle.burst.specs.Search.{first_burst}
 use Rattle.drive.specs.declared.buffer.SectorBuffer.{SectorBuffer}
 use Rattle.drive.specs.Model.{Sector, no_sector, Showing, no_id, no_data_mark, wrong_bits, DriveModel}
 use Rattle.drive.specs.Calls.{track_under, shown as next_shown, read_answer, handed_over}
-use Rattle.task_file.specs.declared.bay.Selection.{Selection}
+use Rattle.task_file.specs.declared.sdh.Selection.{Selection}
 use Rattle.task_file.specs.declared.registers.Registers.{Registers}
 use Rattle.task_file.specs.declared.command.ReadMode.{ReadMode}
 use Rattle.task_file.specs.declared.failure.Failure.{Failure}
@@ -24,8 +24,8 @@ use Rattle.task_file.specs.declared.state.ReadJob.{ReadJob}
 use Rattle.task_file.specs.declared.state.Job.TheVariants.{Read}
 use Rattle.task_file.specs.declared.state.Phase.TheVariants.{Busy, Offering}
 use Rattle.task_file.specs.declared.state.State.{State}
-use Rattle.task_file.specs.Registers.{size_at, mode_at}
-use Rattle.task_file.specs.State.{with_buffer, with_corrected, is_busy, requests}
+use Rattle.task_file.specs.Sdh.{size_at, mode_at}
+use Rattle.task_file.specs.State.{is_busy, requests}
 use Rattle.task_file.specs.Attempts.{outcome_of, verdict_of, sector_failure, sector_taken, mended_buffer, read_failed, read_by, read_judged}
 use Rattle.round_trip.specs.Laws.{Mild}
 use Rattle.round_trip.proofs.Showings.{difference_shown, clean_intact, shows_burst, Corrected, Settles, corrected_nonzero}
@@ -142,8 +142,8 @@ module _ (mode : CheckMode) (size : SizeCode) (bytes : List ℕ) (long : length 
           let fixed = inverted (set_of f.0) (take (bytes_of size) s.buffer.bytes) in
           let at_front = take_at fixed (drop (bytes_of size) s.buffer.bytes) (bytes_of size) (length-inverted (set_of f.0) (take (bytes_of size) s.buffer.bytes) ∙ f.1.2) in
           rw found
-          (subst (λ z. Tried k bad s.registers s.failure (sector_taken (with_corrected s (mended_buffer (bytes_of z) f.0 s.buffer)) m)) (sym same_size)
-          (taken_state (inr c) unmarked (with_corrected s (mended_buffer (bytes_of size) f.0 s.buffer)) (at_front ∙ f.1.1) refl refl))
+          (subst (λ z. Tried k bad s.registers s.failure (sector_taken (record s { corrected = true; buffer = mended_buffer (bytes_of z) f.0 s.buffer }) m)) (sym same_size)
+          (taken_state (inr c) unmarked (record s { corrected = true; buffer = mended_buffer (bytes_of size) f.0 s.buffer }) (at_front ∙ f.1.1) refl refl))
       tried_by (Retry _) (tries_again under settles_not) = again under settles_not refl refl (grind arith)
       tried_by (Fail _) (given_up e all settles_not) = failed_state (λ unmarked. (all, settles_not)) (sector_failure s.registers on k e)
       tried_by (Fail _) (marked e is) = failed_state (λ unmarked. cc) (sector_failure s.registers on k e)
@@ -155,7 +155,7 @@ module _ (mode : CheckMode) (size : SizeCode) (bytes : List ℕ) (long : length 
         (same_mode : mode_at s.registers.sdh ≡ mode) (same_size : size_at s.registers.sdh ≡ size) where
       pub tried : (k : ℕ) → k < 9 → (bad : Bool) → next_shown d on.head number ≡ shows k → (get_or (track_under d on.head) stands.slot no_sector).bad ≡ bad
           → Tried k bad s.registers s.failure
-          (read_judged (read_answer d on.head number (size_at s.registers.sdh)) (with_buffer s (handed_over d on.head number (size_at s.registers.sdh) s.buffer))
+          (read_judged (read_answer d on.head number (size_at s.registers.sdh)) (record s { buffer = handed_over d on.head number (size_at s.registers.sdh) s.buffer })
           (record { mode = m; attempts = k; previous = remembered mode size bytes long shows k }) on)
       unfolding read_judged
       tried k few bad is_shown is_bad =
@@ -165,7 +165,7 @@ module _ (mode : CheckMode) (size : SizeCode) (bytes : List ℕ) (long : length 
           ap (λ l. outcome_of (read_answer d on.head number size) l mode size b) plain ∙ outcome_is d on.head number s.buffer ready stands shows (shows k) bad is_shown is_bad in
           let front : (w : BitSet) → shows k ≡ wrong_bits w → bad ≡ false → take (bytes_of size) b.bytes ≡ inverted w bytes =
           λ w is unmarked. handed_bytes d on.head number s.buffer ready stands w (is_shown ∙ is) (is_bad ∙ unmarked) in
-          let by = tried_by k few bad (with_buffer s b) on front same_size _ (judged mode size bytes long shows k bad) in
-          subst (λ z. Tried k bad s.registers s.failure (read_by (verdict_of (mode_at s.registers.sdh) k j.previous (outcome_of (read_answer d on.head number z) m.long (mode_at s.registers.sdh) z (handed_over d on.head number z s.buffer))) (with_buffer s (handed_over d on.head number z s.buffer)) j on)) (sym same_size)
-          (subst (λ c. Tried k bad s.registers s.failure (read_by (verdict_of c k j.previous (outcome_of (read_answer d on.head number size) m.long c size b)) (with_buffer s b) j on)) (sym same_mode)
-          (subst (λ o. Tried k bad s.registers s.failure (read_by (verdict_of mode k j.previous o) (with_buffer s b) j on)) (sym outcome) by))
+          let by = tried_by k few bad (record s { buffer = b }) on front same_size _ (judged mode size bytes long shows k bad) in
+          subst (λ z. Tried k bad s.registers s.failure (read_by (verdict_of (mode_at s.registers.sdh) k j.previous (outcome_of (read_answer d on.head number z) m.long (mode_at s.registers.sdh) z (handed_over d on.head number z s.buffer))) (record s { buffer = handed_over d on.head number z s.buffer }) j on)) (sym same_size)
+          (subst (λ c. Tried k bad s.registers s.failure (read_by (verdict_of c k j.previous (outcome_of (read_answer d on.head number size) m.long c size b)) (record s { buffer = b }) j on)) (sym same_mode)
+          (subst (λ o. Tried k bad s.registers s.failure (read_by (verdict_of mode k j.previous o) (record s { buffer = b }) j on)) (sym outcome) by))

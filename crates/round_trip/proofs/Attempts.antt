@@ -52,14 +52,14 @@ module _ (d : DriveModel) (head number : ℕ) (size : SizeCode) (b : SectorBuffe
 -- ---- formatting
 -- a format replaces the track or leaves the drive
 pub data Formats (d : DriveModel) (head : ℕ) (ids : List SectorId) (size : SizeCode) (check : List ℕ) (done : Bool) (e : DriveModel) : Type 0 where
-  laid : done ≡ true → e ≡ with_track d head (blank_track ids size check) (track head ids size check) → Formats d head ids size check done e
+  laid : done ≡ true → e ≡ with_track d head (blank_track ids size check) (track d.cylinder head ids size check) → Formats d head ids size check done e
   refused : done ≡ false → e ≡ d → Formats d head ids size check done e
 
 pub formats : (d : DriveModel) (head : ℕ) (ids : List SectorId) (size : SizeCode) (check : List ℕ) → Formats d head ids size check (is_ok (format_answer d head ids size)) (after_format d head ids size check)
 unfolding after_format
 formats d head ids size check = by_answer (is_ok (format_answer d head ids size))
   where
-    by_answer : (done : Bool) → Formats d head ids size check done (unless done d (with_track d head (blank_track ids size check) (track head ids size check)))
+    by_answer : (done : Bool) → Formats d head ids size check done (unless done d (with_track d head (blank_track ids size check) (track d.cylinder head ids size check)))
     by_answer true = laid refl refl
     by_answer false = refused refl refl
 

@@ -2,19 +2,21 @@
 use Rattle.std.proofs.Common.{◌≡◌, ℕ, ◌<◌, Bool, true, false, ◌&&◌, eqb, Some, None, Option, refl, subst, arith}
 use Rattle.std.proofs.lemmas.Bool.{and_from, not_from_false}
 use Rattle.std.proofs.lemmas.Bool.Decides.{nat_tests}
+use Rattle.std.specs.Option.{option_map}
 use Rattle.task_file.specs.declared.command.Command.TheVariants as command
 use Rattle.task_file.specs.declared.command.ReadMode.{ReadMode}
-use Rattle.task_file.specs.declared.bay.Selection.{Selection}
+use Rattle.task_file.specs.declared.sdh.Selection.{Selection}
 use Rattle.task_file.specs.declared.state.Job.TheVariants.{Read}
 use Rattle.task_file.specs.declared.state.ReadJob.{ReadJob}
 use Rattle.task_file.specs.declared.state.Phase.{Phase}
 use Rattle.task_file.specs.declared.state.Phase.TheVariants.{Busy}
 use Rattle.task_file.specs.declared.state.State.{State}
 use Rattle.task_file.specs.declared.view.DriveView.{DriveView}
-use Rattle.task_file.specs.Registers.{cylinder_of, selected}
+use Rattle.task_file.specs.Registers.{cylinder_of}
+use Rattle.task_file.specs.Sdh.{selected}
 use Rattle.task_file.specs.State.{first_read, is_busy}
 use Rattle.task_file.specs.Beginning.{begun}
-use Rattle.task_file.specs.Moving.{drawn, put}
+use Rattle.task_file.specs.Moving.{drawn_at, put_at}
 use Rattle.controller.specs.Access.{state_after_read}
 use Rattle.controller.specs.Model.{ControllerModel, view_of, seen_at, seen}
 use Rattle.controller.specs.declared.call.Call.{Call}
@@ -24,18 +26,18 @@ use Rattle.histories.specs.Working.{under_way, Able, InOrder}
 use Rattle.histories.proofs.Working.{able_job, able_none}
 use Rattle.round_trip.specs.Events.{busy, accepts, busy_comes_on, SectorName, sector_named}
 use Rattle.round_trip.specs.Ledger.{Notes}
-use Rattle.round_trip.specs.Laws.{sector_now, named_by}
+use Rattle.round_trip.specs.Laws.{sector_now}
 use Rattle.round_trip.proofs.Accessed as access
 use Rattle.round_trip.proofs.Kept.{Agrees, Kept}
 
 -- ---- BUSY coming on
 -- of writes only a command begins a read
 write_afresh : (s : State) (v : Option DriveView) (n byte : ℕ) (j : ReadJob) (done : Bool) (t : State) → access.Accessed s v n byte done t → t.phase ≡ Busy (Read j) → is_busy s.phase ≡ false → j ≡ first_read j.mode
-unfolding put begun
+unfolding put_at begun
 write_afresh s v n byte j done t a reads off = grind arith
 
 pub begins_afresh : (b : ControllerModel) (c : Call) (j : ReadJob) → busy_comes_on b c ≡ true → (called b c).state.phase ≡ Busy (Read j) → j ≡ first_read j.mode
-unfolding state_after_read drawn
+unfolding state_after_read drawn_at
 begins_afresh b (call.Read n) j on reads = grind (arith, nat_tests)
 begins_afresh b (call.Write n byte) j on reads = write_afresh b.state (seen b) n byte j _ _ (access.accessed b.state (seen b) byte n) reads (grind arith)
 begins_afresh b call.Turn j on reads = grind arith
@@ -65,10 +67,10 @@ read_in_force n b m kept forced on = by_phase b.state.phase refl kept.agrees on
 
 -- the drive of a sector is ready, and has the registers' cylinder
 abbrev pub InReach : ControllerModel → SectorName → Type 0
-InReach b name = ((b.drives name.track.bay).ready ≡ true) × (cylinder_of b.state.registers < (b.drives name.track.bay).cylinders)
+InReach b name = ((b.drives name.track.bay).ready ≡ true) × (cylinder_of b.state.registers < (b.drives name.track.bay).geometry.cylinders)
 
-selected_has : (sel : Option Selection) (b : ControllerModel) (j : ReadJob) → Able (Some (command.Read j.mode)) b.state.registers (seen_at sel b)
-    → (name : SectorName) × ((named_by sel b ≡ Some name) × InReach b name)
+selected_has : (sel : Option Selection) (b : ControllerModel) (j : ReadJob) → Able (Some (command.Read j.mode)) b.state.registers (option_map (seen_at b) sel)
+    → (name : SectorName) × ((option_map (λ at. sector_named at b.state.registers) sel ≡ Some name) × InReach b name)
 selected_has (Some at) b j able = (sector_named at b.state.registers, (refl, able_job (Read j) b.state.registers (view_of at (b.drives at.bay)) able (λ e. cc)))
 selected_has None b j able = absurd (able_none (Read j) b.state.registers able (λ e. cc))
 

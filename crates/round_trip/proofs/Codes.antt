@@ -4,18 +4,18 @@ use lib.Bits.{bit_xor}
 use Rattle.sector.specs.declared.size.SizeCode.{SizeCode}
 use Rattle.sector.specs.declared.wrong_bits.Burst.{Burst}
 use Rattle.sector.specs.Sizes.{bytes_of}
-use Rattle.sector.specs.Bits.{BitSet, digit_of, from_bit, inverted, OneBurst}
+use Rattle.sector.specs.Bits.{BitSet, from_bit, inverted, OneBurst, set_of}
+use Rattle.sector.proofs.Fed.{fed_none, first_bits_none}
 use Rattle.sector.proofs.Inverted.{inverted_none, inverted_back}
 use Rattle.check_code.specs.declared.mode.CheckMode.{CheckMode}
 use Rattle.check_code.specs.declared.mode.CheckMode.TheVariants.{Crc, Ecc}
-use Rattle.check_code.specs.Code.{width, enter, append, ecc_code, check_bytes_of, digits_of, amount_of}
+use Rattle.check_code.specs.Code.{width, enter, ecc_code, check_bytes_of, amount_of}
 use Rattle.check_code.specs.Laws.{Sound, damaged_difference}
 use Rattle.check_code.specs.Mode.{code_of}
-use Rattle.check_code.proofs.Fold.{fold_zero}
 use Rattle.check_code.proofs.Laws.{whole, inverting, balance_cong}
 use Rattle.check_code.proofs.Window.{amount_shows}
 use Rattle.check_code.specs.Sound.{crc_sound, ecc_sound}
-use Rattle.burst.specs.Search.{bits_of, set_of, first_burst}
+use Rattle.burst.specs.Search.{bits_of, first_burst}
 use Rattle.burst.specs.Mending.{Delivered}
 use Rattle.burst.proofs.Apart.{apart}
 use Rattle.burst.proofs.Restoring.{burst_answer, burst_found}
@@ -34,7 +34,7 @@ differs_amount m w bytes =
     inverting (code_of m) (sound_mode m) w bytes (check_bytes_of (code_of m) bytes) refl
     ∙ ap (λ x. bit_xor x (amount_of (code_of m) w (length bytes))) (whole (code_of m) (sound_mode m) bytes)
 
-none_enters : (m : CheckMode) → enter (code_of m) 0 0 ≡ 0
+none_enters : (m : CheckMode) → enter (code_of m) 0 false ≡ 0
 none_enters Crc = refl
 none_enters Ecc = refl
 
@@ -46,16 +46,14 @@ module _ (m : CheckMode) (w : BitSet) (bytes : List ℕ) (clean : (i : ℕ) → 
   pub clean_differs : differs_by m w bytes ≡ 0
   clean_differs =
       let n = length bytes in
-      let s : ℕ → ℕ = digits_of w in
-      let off : (i : ℕ) → i < 8 * n + width (code_of m) → s i ≡ 0 = λ i l. ap digit_of (clean i l) in
       differs_amount m w bytes
-      ∙ ap₂ bit_xor (fold_zero (enter (code_of m)) (none_enters m) s (8 * n) (λ i l. off i (omega arith)))
-      (fold_zero append refl (λ j. s (8 * n + j)) (width (code_of m)) (λ j l. off (8 * n + j) (omega arith)))
+      ∙ ap₂ bit_xor (fed_none (enter (code_of m)) (none_enters m) w (8 * n) (λ i l. clean i (omega arith)))
+      (first_bits_none (from_bit (8 * n) w) (width (code_of m)) (λ j l. clean (8 * n + j) (omega arith)))
 
 -- sets that agree on the bits that the code uses have one difference
 pub same_bits : (m : CheckMode) (w u : BitSet) (bytes : List ℕ) → ((i : ℕ) → i < 8 * length bytes + width (code_of m) → w i ≡ u i) → differs_by m w bytes ≡ differs_by m u bytes
 same_bits m w u bytes same =
-    differs_amount m w bytes ∙ balance_cong (code_of m) 0 (digits_of w) (digits_of u) (length bytes) (λ i l. ap digit_of (same i l)) ∙ sym (differs_amount m u bytes)
+    differs_amount m w bytes ∙ balance_cong (code_of m) 0 w u (length bytes) same ∙ sym (differs_amount m u bytes)
 
 -- ---- one burst
 module _ (m : CheckMode) (w : BitSet) (bytes : List ℕ) (b : OneBurst w (8 * length bytes + width (code_of m))) where

@@ -9,8 +9,8 @@ use Rattle.task_file.specs.declared.command.ReadMode.{ReadMode}
 use Rattle.task_file.specs.declared.state.Phase.TheVariants.{Offering}
 use Rattle.task_file.specs.declared.state.State.{State}
 use Rattle.task_file.specs.declared.view.DriveView.{DriveView}
-use Rattle.task_file.specs.Registers.{size_at}
-use Rattle.task_file.specs.Moving.{drawn}
+use Rattle.task_file.specs.Sdh.{size_at}
+use Rattle.task_file.specs.Moving.{drawn_at}
 use Rattle.controller.specs.Access.{read_answer_of, state_after_read}
 use Rattle.controller.specs.Model.{ControllerModel, seen}
 use Rattle.controller.specs.declared.call.Call.{Call}
@@ -30,7 +30,7 @@ pub record Drawn (e : ControllerModel) (m : ReadMode) (at : ℕ) (b : Controller
 -- ---- one call
 read_draws : (e : ControllerModel) (m : ReadMode) (at n : ℕ) → e.state.phase ≡ Offering m at → drq (called e (call.Read n)) ≡ true
     → Drawn e m (at + draws e (call.Read n)) (called e (call.Read n))
-unfolding read_answer_of state_after_read drawn
+unfolding read_answer_of state_after_read drawn_at
 read_draws e m at n offering on =
     record {
       phase = grind (arith, nat_tests);
@@ -83,5 +83,5 @@ draws_next b m at offering plain few = grind (arith, nat_tests, get_or-take)
 -- DRQ stays on where more bytes come
 pub draws_on : (b : ControllerModel) (m : ReadMode) (at : ℕ) → b.state.phase ≡ Offering m at → m.long ≡ false → at + 1 < bytes_of (size_at b.state.registers.sdh)
     → drq (called b (call.Read 0)) ≡ true
-unfolding state_after_read drawn
+unfolding state_after_read drawn_at
 draws_on b m at offering plain more = grind (arith, nat_tests)

@@ -3,7 +3,7 @@ use Rattle.std.proofs.Common.{◌≡◌, ℕ, ◌+◌, ◌<◌, Bool, true, not,
 use Rattle.std.proofs.lemmas.Bool.{cases_Bool, cond_both, and_parts, not-true}
 use Rattle.sector.specs.Bits.{marked, OneBurst}
 use Rattle.check_code.specs.declared.mode.CheckMode.TheVariants.{Ecc}
-use Rattle.burst.specs.Search.{first_below, first_burst}
+use Rattle.burst.specs.Search.{first_burst}
 use Rattle.burst.proofs.Patterns.{marked_burst}
 use Rattle.drive.specs.Model.{Sector, Showing}
 use Rattle.drive.specs.Bounds.{ADrive}
@@ -13,7 +13,7 @@ use Rattle.task_file.specs.Bays.{same_bay}
 use Rattle.task_file.specs.Commands.{command_of}
 use Rattle.task_file.specs.Aborting.{aborts}
 use Rattle.task_file.specs.Beginning.{begun}
-use Rattle.task_file.specs.Moving.{drawn, put}
+use Rattle.task_file.specs.Moving.{drawn_at, put_at}
 use Rattle.task_file.specs.Attempts.{read_judged}
 use Rattle.controller.specs.Access.{read_answer_of, state_after_read, write_answer_of, state_after_write}
 use Rattle.controller.specs.Model.{ControllerModel}
@@ -73,7 +73,7 @@ throughout (c ∷ cs) b on =
 
 -- ---- the example
 computed : PremisesMet × (answers offered (replicate 128 (call.Read 0)) ≡ map byte_read sheet)
-unfolding runs answers command_of aborts begun drawn put read_judged read_answer_of state_after_read write_answer_of state_after_write worked stepped_in stepped_out read_answer handed_over after_read write_answer after_write format_answer after_format first_below first_burst event_of notes_from asks
+unfolding runs answers command_of aborts begun drawn_at put_at read_judged read_answer_of state_after_read write_answer_of state_after_write worked stepped_in stepped_out read_answer handed_over after_read write_answer after_write format_answer after_format first_burst event_of notes_from asks
 computed = (
   record {
     is_new =

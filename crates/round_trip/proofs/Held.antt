@@ -1,14 +1,12 @@
 -- The invariant of all histories, with what is noted of them, and that every call keeps it.
-use Rattle.std.proofs.Common.{◌≡◌, ℕ, zero, suc, ◌+◌, ◌*◌, ◌≤◌, min, lit≤, slice_index, Bool, true, false, cond, not, ◌&&◌, eqb, List, [], ◌∷◌, ◌++◌, length, take, Option, sym, refl, ap, ◌∙◌, subst, inl, Some, None, arith}
+use Rattle.std.proofs.Common.{◌≡◌, ℕ, zero, suc, ◌+◌, ◌*◌, ◌≤◌, min, slice_index, Bool, true, false, cond, not, ◌&&◌, eqb, List, [], ◌∷◌, ◌++◌, length, take, Option, sym, refl, ap, ◌∙◌, subst, inl, Some, None, arith}
 use Rattle.std.proofs.lemmas.List.{length-take-le, get_or-take}
 use Rattle.std.proofs.lemmas.Bool.{not-true, cond_both}
-use Rattle.sector.specs.declared.size.SizeCode.{SizeCode}
-use Rattle.sector.specs.declared.size.SizeCode.TheVariants.{Bytes256, Bytes512, Bytes1024, Bytes128}
 use Rattle.sector.specs.Sizes.{bytes_of}
-use Rattle.sector.proofs.Sizes.{bytes_most}
+use Rattle.sector.proofs.Sizes.{bytes_least, bytes_most}
 use Rattle.drive.specs.Model.{DriveModel}
 use Rattle.task_file.specs.declared.bay.Bay.{Bay}
-use Rattle.task_file.specs.declared.bay.Selection.{Selection}
+use Rattle.task_file.specs.declared.sdh.Selection.{Selection}
 use Rattle.task_file.specs.declared.command.Command.{Command}
 use Rattle.task_file.specs.declared.state.Job.{Job}
 use Rattle.task_file.specs.declared.state.Job.TheVariants.{Write, Format}
@@ -16,19 +14,20 @@ use Rattle.task_file.specs.declared.state.Phase.{Phase}
 use Rattle.task_file.specs.declared.state.Phase.TheVariants.{Busy}
 use Rattle.task_file.specs.declared.state.State.{State}
 use Rattle.task_file.specs.Bays.{same_bay}
-use Rattle.task_file.specs.Registers.{size_at, mode_at, selected, sector_count}
-use Rattle.task_file.specs.Moving.{put}
-use Rattle.task_file.specs.Attempts.{ids_of}
+use Rattle.task_file.specs.Registers.{sector_count}
+use Rattle.task_file.specs.Sdh.{size_at, mode_at, selected}
+use Rattle.task_file.specs.Moving.{put_at}
+use Rattle.task_file.specs.Pairs.{ids_of}
 use Rattle.task_file.specs.Commands.{command_of}
 use Rattle.task_file.specs.State.{is_busy, requests}
 use Rattle.controller.specs.Turns.{Turned, worked, without_drive}
-use Rattle.controller.specs.Model.{ControllerModel, with_state, with_drive, seen, turned_in}
+use Rattle.controller.specs.Model.{ControllerModel, with_drive, seen, turned_in}
 use Rattle.controller.specs.declared.call.Call.{Call}
 use Rattle.controller.specs.declared.call.Call.TheVariants as call
 use Rattle.controller.specs.Runs.{called, runs, IsNew}
 use Rattle.histories.specs.Working.{InOrder}
 use Rattle.histories.proofs.Orders.{order_call, order_new, drive_put}
-use Rattle.round_trip.specs.Events.{sector_named, TrackName, Event, nothing, sector_written, turn_event_on, turn_event, event_of}
+use Rattle.round_trip.specs.Events.{sector_named, TrackName, Event, nothing, sector_written, turn_event, event_of}
 use Rattle.round_trip.specs.Ledger.{entered, Notes, no_notes, noted, notes_from, notes_of}
 use Rattle.round_trip.specs.Laws.{track_of}
 use Rattle.round_trip.proofs.Sound.{Sound, Buffered, sound_drive}
@@ -69,7 +68,7 @@ write_kept_by : (n : Notes) (b : ControllerModel) (number byte : ℕ) → Held n
     → Kept (taken_now b.state.phase t.phase (eqb number 7 && done) (cond (eqb number 0 && done) (n.taken ++ (byte ∷ [])) n.taken)) (cond (eqb number 7 && done) (command_of byte) n.in_force) t
 write_kept_by n b number byte h done t (access.left_alone no_0 no_7 is) = rw (no_0, no_7, is) (kept_same n.taken n.in_force b.state h.kept)
 write_kept_by n b number byte h done t (access.took l p taking is_0 no_7 is) =
-    let after = put b.state l p byte in
+    let after = put_at b.state l p byte in
     let no_news : news b.state.phase after.phase false ≡ false = rw taking (grind arith) in
     rw (is_0, no_7, is, no_news) (kept_put n.taken n.in_force b.state byte h.kept h.order.counted l p taking)
 write_kept_by n b number byte h done t (access.began c idle given no_0 is_7 is) = rw (no_0, is_7, is, given) (kept_begun n.taken b.state c (seen b) h.kept.buffered)
@@ -113,12 +112,6 @@ ids_front xs n (suc k) few =
     let number : slice_index (take n xs) (2 * k + 1) ≡ slice_index xs (2 * k + 1) = get_or-take n xs (2 * k + 1) 0 (omega arith) in
     rw (ids_front xs n k (omega arith), mark, number) refl
 
-bytes_least : (size : SizeCode) → 128 ≤ bytes_of size
-bytes_least Bytes256 = lit≤ tt
-bytes_least Bytes512 = lit≤ tt
-bytes_least Bytes1024 = lit≤ tt
-bytes_least Bytes128 = lit≤ tt
-
 -- what is entered of a plain write or a format is what the buffer holds
 event_fits : (bay : Bay) (b e : ControllerModel) (others : (t : TrackName) → same_bay t.bay bay ≡ false → track_of e t ≡ track_of b t) (n : Notes) (at : Selection) (j : Job) → Held n b → b.state.phase ≡ Busy j
     → FitsEvent bay b e others b.state.buffer n.taken (job_event at b.state (b.drives at.bay) j)
@@ -145,7 +138,7 @@ event_fits bay b e others n at Format h phase = fits_formatted _
 event_fits bay b e others n at j h phase = grind arith
 
 -- the event of a busy controller's turn is its job's
-pub event_is : (j : Job) (at : Selection) (b : ControllerModel) → turn_event_on (Busy j) at b ≡ job_event at b.state (b.drives at.bay) j
+pub event_is : (j : Job) (at : Selection) (b : ControllerModel) → turn_event (Busy j) (Some at) b ≡ job_event at b.state (b.drives at.bay) j
 event_is j at b = grind arith
 
 -- the notes after a turn between two phases
@@ -177,7 +170,7 @@ job_turn at j n b h phase t is e made =
 
 held_job : (at : Selection) (j : Job) (n : Notes) (b : ControllerModel) → Held n b → b.state.phase ≡ Busy j
     → (t : Turned) → t ≡ worked j b.state at (b.drives at.bay) → (e : ControllerModel) → e ≡ with_drive b t.state at.bay t.drive → InOrder e
-    → Held (noted_turn (Busy j) e.state.phase (turn_event_on (Busy j) at b) n) e
+    → Held (noted_turn (Busy j) e.state.phase (turn_event (Busy j) (Some at) b) n) e
 held_job at j n b h phase t is e made order =
     let event = job_event at b.state (b.drives at.bay) j in
     let r = job_turn at j n b h phase t is e made in
@@ -215,7 +208,7 @@ held_turn_by (Busy j) None n b phase h order =
       order = order;
       sound = h.sound;
       kept = without_kept _ n.in_force j b.state h.kept.buffered;
-      ledger = ledger_same b (with_state b (without_drive j b.state)) n.ledger (λ t. refl) h.ledger;
+      ledger = ledger_same b (record b { state = without_drive j b.state }) n.ledger (λ t. refl) h.ledger;
     }
 held_turn_by p sel n b phase h order = held_idle p sel n b phase refl h
 

@@ -12,7 +12,7 @@ use Rattle.drive.specs.declared.buffer.SectorBuffer.{SectorBuffer}
 use Rattle.drive.specs.declared.answers.ReadError.{ReadError}
 use Rattle.drive.specs.declared.answers.WriteError.{WriteError}
 use Rattle.drive.specs.declared.answers.FormatError.{FormatError}
-use Rattle.task_file.specs.declared.bay.Selection.{Selection}
+use Rattle.task_file.specs.declared.sdh.Selection.{Selection}
 use Rattle.task_file.specs.declared.registers.Registers.{Registers}
 use Rattle.task_file.specs.declared.command.Command.{Command}
 use Rattle.task_file.specs.declared.command.Command.TheVariants as command
@@ -26,10 +26,10 @@ use Rattle.task_file.specs.declared.state.Phase.{Phase}
 use Rattle.task_file.specs.declared.state.Phase.TheVariants.{Rest, Busy, Offering, Taking}
 use Rattle.task_file.specs.declared.state.State.{State}
 use Rattle.task_file.specs.declared.view.DriveView.{DriveView}
-use Rattle.task_file.specs.Registers.{size_at, mode_at}
-use Rattle.task_file.specs.State.{with_phase, requests}
+use Rattle.task_file.specs.Sdh.{size_at, mode_at}
+use Rattle.task_file.specs.State.{requests}
 use Rattle.task_file.specs.Beginning.{begun}
-use Rattle.task_file.specs.Moving.{drawn, put}
+use Rattle.task_file.specs.Moving.{drawn_at, put_at}
 use Rattle.task_file.specs.Attempts.{read_by, read_judged, write_judged, format_judged}
 use Rattle.controller.specs.Access.{state_after_read}
 use Rattle.histories.specs.Working.{Counted}
@@ -38,17 +38,12 @@ use Rattle.round_trip.proofs.Sound.{Buffered}
 -- ---- the invariant of the state
 -- the bytes taken so far for a plain write or a format are the front of the buffer; once all of a write are taken their check bytes are there
 abbrev pub TakenFits : Phase → Registers → SectorBuffer → List ℕ → Type 0
-TakenFits Rest r b taken = Unit {0}
-TakenFits (Busy Test) r b taken = Unit {0}
-TakenFits (Busy (Restore k)) r b taken = Unit {0}
-TakenFits (Busy Seek) r b taken = Unit {0}
-TakenFits (Busy (Read j)) r b taken = Unit {0}
 TakenFits (Busy (Write j)) r b taken =
     j.mode.long ≡ false → (take (bytes_of (size_at r.sdh)) b.bytes ≡ taken) × (b.check ≡ check_bytes_of (code_of (mode_at r.sdh)) taken)
 TakenFits (Busy Format) r b taken = take (bytes_of (size_at r.sdh)) b.bytes ≡ taken
-TakenFits (Offering m at) r b taken = Unit {0}
 TakenFits (Taking (Sector m) at) r b taken = m.long ≡ false → take at b.bytes ≡ taken
 TakenFits (Taking Track at) r b taken = take at b.bytes ≡ taken
+TakenFits p r b taken = Unit {0}
 
 -- what is under way is the command in force
 abbrev pub Agrees : Phase → Option Command → Type 0
@@ -86,7 +81,7 @@ kept_same taken o s k = subst (λ x. Kept (cond x [] taken) o s) (sym (no_news s
 -- ---- calls that are no turns
 -- a register read
 pub kept_read : (taken : List ℕ) (o : Option Command) (s : State) (n : ℕ) → Kept taken o s → Kept (taken_now s.phase (state_after_read s n).phase false taken) o (state_after_read s n)
-unfolding state_after_read drawn
+unfolding state_after_read drawn_at
 kept_read taken o s n k = record { buffered = record { bytes_long = grind arith; check_long = grind arith }; fits = grind (arith, nat_tests); agrees = grind (arith, nat_tests) }
 
 -- one byte more at the front
@@ -96,8 +91,8 @@ front_more xs taken at byte here e =
     ∙ ap₂ (λ ys y. ys ++ (y ∷ [])) (take-set xs at byte ∙ e) (get_or-set_same xs at byte 0 here)
 
 -- a byte taken
-pub kept_put : (taken : List ℕ) (o : Option Command) (s : State) (byte : ℕ) → Kept taken o s → Counted s.phase s.registers → (l : Load) (at : ℕ) → s.phase ≡ Taking l at → Kept (taken ++ (byte ∷ [])) o (put s l at byte)
-unfolding put
+pub kept_put : (taken : List ℕ) (o : Option Command) (s : State) (byte : ℕ) → Kept taken o s → Counted s.phase s.registers → (l : Load) (at : ℕ) → s.phase ≡ Taking l at → Kept (taken ++ (byte ∷ [])) o (put_at s l at byte)
+unfolding put_at
 kept_put taken o s byte k counted l at e =
     record {
       buffered = record { bytes_long = grind (arith, length-set {A = ℕ}); check_long = grind (arith, length-set {A = ℕ}) };
@@ -127,7 +122,7 @@ pub read_kept : (more : List ℕ) (o : Option Command) (j : ReadJob) → o ≡ S
 unfolding read_judged
 read_kept more o j agrees a s on f = verdict_kept more o j agrees _ s on f
 
-pub write_kept : (taken : List ℕ) (o : Option Command) (s : State) (j : WriteJob) → Kept taken o (with_phase s (Busy (Write j))) → (a : Result (Unit {0}) WriteError) (on : Selection)
+pub write_kept : (taken : List ℕ) (o : Option Command) (s : State) (j : WriteJob) → Kept taken o (record s { phase = Busy (Write j) }) → (a : Result (Unit {0}) WriteError) (on : Selection)
     → Kept (turn_taken taken (write_judged a s j on)) o (write_judged a s j on)
 write_kept taken o s j k a on =
     record { buffered = record { bytes_long = grind arith; check_long = grind arith }; fits = grind arith; agrees = grind arith }

@@ -2,18 +2,18 @@
 use Rattle.std.proofs.Common.{◌≡◌, ℕ, ◌+◌, ◌<◌, true, false, not, ◌||◌, List, [], ◌∷◌, ◌++◌, length, take, is_some, None, sym, ap, ◌∙◌, subst, zero-add, arith, slice_index}
 use Rattle.std.proofs.lemmas.Bool.{and_parts, and_from, both_ways}
 use Rattle.sector.specs.Sizes.{bytes_of}
-use Rattle.task_file.specs.declared.bay.Selection.{Selection}
+use Rattle.task_file.specs.declared.sdh.Selection.{Selection}
 use Rattle.task_file.specs.declared.registers.Registers.{Registers}
 use Rattle.task_file.specs.declared.command.ReadMode.{ReadMode}
 use Rattle.task_file.specs.declared.state.Job.TheVariants.{Read}
 use Rattle.task_file.specs.declared.state.Phase.{Phase}
 use Rattle.task_file.specs.declared.state.Phase.TheVariants.{Busy, Offering}
-use Rattle.task_file.specs.Registers.{size_at}
+use Rattle.task_file.specs.Sdh.{size_at}
 use Rattle.task_file.specs.State.{first_read, is_busy, requests}
 use Rattle.controller.specs.Model.{ControllerModel}
 use Rattle.controller.specs.declared.call.Call.{Call}
 use Rattle.controller.specs.declared.call.Call.TheVariants as call
-use Rattle.controller.specs.Runs.{Answer, called, runs, answers, IsNew, answer_to, byte_read, Continues}
+use Rattle.controller.specs.Runs.{Answer, called, runs, IsNew, answer_to, byte_read, Ran}
 use Rattle.histories.specs.Working.{InOrder, Counted}
 use Rattle.histories.proofs.Orders.{order_call, order_runs}
 use Rattle.controller.proofs.Runs.{runs_joined}
@@ -205,8 +205,7 @@ round_trip new is_new history =
       busy_ends = busy_ends new is_new history;
     }
 
--- so a run that hands back the definitions' answers, and continues every history, tells all that it has to
-pub tells : (old : ControllerModel) (calls : List Call) (given : List Answer) (now : ControllerModel) → given ≡ answers old calls → Continues old calls now → Tells old calls given now
-unfolding Tells ScriptIsSheet
-tells old calls given now every continues new is_new history leads =
-    (continues new is_new history leads, subst (λ z. given ≡ answers z calls) (sym leads) every, round_trip new is_new (history ++ calls))
+-- so calls that were made tell all that a run has to
+pub tells : (before : ControllerModel) (calls : List Call) (given : List Answer) (after : ControllerModel) → Ran before calls given after → Tells before calls given after
+unfolding ScriptIsSheet
+tells before calls given now ran = record { ran = ran; laws = λ new is_new history leads. round_trip new is_new (history ++ calls) }

@@ -10,7 +10,8 @@ use Rattle.drive.specs.declared.buffer.SectorBuffer.{SectorBuffer}
 use Rattle.drive.specs.Model.{Sector, no_sector, slot_of, blank_track, replaced}
 use Rattle.task_file.specs.declared.bay.Bay.{Bay}
 use Rattle.task_file.specs.Bays.{same_bay}
-use Rattle.task_file.specs.Attempts.{ids_of, zero_check}
+use Rattle.task_file.specs.Attempts.{zero_check}
+use Rattle.task_file.specs.Pairs.{ids_of}
 use Rattle.controller.specs.Model.{ControllerModel}
 use Rattle.round_trip.specs.Events.{TrackName, SectorName, same_track, same_sector, Event, nothing, sector_written, track_formatted}
 use Rattle.round_trip.specs.Ledger.{Writing, Ledger, numbered, entered}

@@ -1,14 +1,14 @@
 -- Along calls a plain read comes to its sector's bytes, or fails where they cannot be had: the laws of same bytes and of clean reads.
 use Rattle.std.proofs.Common.{◌≡◌, ℕ, ◌<◌, Bool, true, false, List, [], ◌∷◌, take, is_some, sym, refl, ap, ◌∙◌, subst, zero-add, arith}
 use Rattle.sector.specs.Sizes.{bytes_of}
-use Rattle.task_file.specs.declared.bay.Selection.{Selection}
+use Rattle.task_file.specs.declared.sdh.Selection.{Selection}
 use Rattle.task_file.specs.declared.command.ReadMode.{ReadMode}
 use Rattle.task_file.specs.declared.state.Job.TheVariants.{Test, Read}
 use Rattle.task_file.specs.declared.state.Phase.TheVariants.{Rest, Busy, Offering}
-use Rattle.task_file.specs.Registers.{size_at}
-use Rattle.task_file.specs.State.{first_read, with_intrq, is_busy, requests}
+use Rattle.task_file.specs.Sdh.{size_at}
+use Rattle.task_file.specs.State.{first_read, is_busy, requests}
 use Rattle.controller.specs.Turns.{worked}
-use Rattle.controller.specs.Model.{ControllerModel, with_state}
+use Rattle.controller.specs.Model.{ControllerModel}
 use Rattle.controller.specs.declared.call.Call.{Call}
 use Rattle.controller.specs.declared.call.Call.TheVariants as call
 use Rattle.controller.specs.Runs.{called, runs}
@@ -45,7 +45,7 @@ module _ (b : ControllerModel) (at : Selection) (m : ReadMode) (x : Writing) (be
       record { few = omega arith; order = order; phase = phase; registers = refl; failure = refl; tracks = refl; outlook = λ i. ap (outlook_at b (sector_named at b.state.registers)) (sym (zero-add i)); so_far = λ i less. absurd (omega arith) }
 
   -- the interrupt line is no part of it
-  same_tries : (k : ℕ) (e : ControllerModel) (i : Bool) → T k e → InOrder (with_state e (with_intrq e.state i)) → T k (with_state e (with_intrq e.state i))
+  same_tries : (k : ℕ) (e : ControllerModel) (i : Bool) → T k e → InOrder (record e { state = record e.state { intrq = i } }) → T k (record e { state = record e.state { intrq = i } })
   same_tries k e i t order =
       record {
         few = t.few;

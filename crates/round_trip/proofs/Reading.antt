@@ -2,13 +2,14 @@
 use Rattle.std.proofs.Common.{◌≡◌, ℕ, suc, ◌+◌, ◌<◌, Bool, true, false, cond, eqb, List, length, get_or, take, is_some, Some, None, Option, sym, refl, ap, ◌∙◌, subst, ap₂, add-zero, arith}
 use Rattle.std.proofs.lemmas.Bool.{eqb-true}
 use Rattle.std.proofs.lemmas.Bool.Decides.{nat_tests}
+use Rattle.std.specs.Option.{option_map}
 use Rattle.sector.specs.Sizes.{bytes_of}
 use Rattle.check_code.specs.Code.{check_bytes_of}
 use Rattle.check_code.specs.Mode.{code_of}
 use Rattle.drive.specs.Model.{Sector, no_sector, slot_of, Showing, Outlook, used_up, DriveModel}
 use Rattle.drive.specs.Calls.{nearer, stepped_in, stepped_out, track_under, shown, after_read}
 use Rattle.task_file.specs.declared.bay.Bay.{Bay}
-use Rattle.task_file.specs.declared.bay.Selection.{Selection}
+use Rattle.task_file.specs.declared.sdh.Selection.{Selection}
 use Rattle.task_file.specs.declared.registers.Registers.{Registers}
 use Rattle.task_file.specs.declared.command.ReadMode.{ReadMode}
 use Rattle.task_file.specs.declared.state.ReadJob.{ReadJob}
@@ -16,7 +17,8 @@ use Rattle.task_file.specs.declared.state.Job.{Job}
 use Rattle.task_file.specs.declared.state.Job.TheVariants.{Read}
 use Rattle.task_file.specs.declared.state.Phase.TheVariants.{Busy, Offering}
 use Rattle.task_file.specs.declared.state.State.{State}
-use Rattle.task_file.specs.Registers.{cylinder_of, size_at, mode_at, selected}
+use Rattle.task_file.specs.Registers.{cylinder_of}
+use Rattle.task_file.specs.Sdh.{size_at, mode_at, selected}
 use Rattle.task_file.specs.State.{is_busy, requests}
 use Rattle.controller.specs.Turns.{Turned, turned, read_act, worked}
 use Rattle.controller.specs.Model.{ControllerModel, turned_in}
@@ -26,7 +28,7 @@ use Rattle.histories.specs.Working.{InOrder}
 use Rattle.histories.proofs.Orders.{order_call, drive_put}
 use Rattle.round_trip.specs.Events.{SectorName, sector_named}
 use Rattle.round_trip.specs.Ledger.{Writing}
-use Rattle.round_trip.specs.Laws.{Mild, used_bits, outlook_at, named_by, sector_now, StandsUnmarked, track_of}
+use Rattle.round_trip.specs.Laws.{Mild, used_bits, outlook_at, sector_now, StandsUnmarked, track_of}
 use Rattle.round_trip.proofs.Tracks.{Stands}
 use Rattle.round_trip.proofs.Attempts.{after_read_is}
 use Rattle.round_trip.proofs.Ledgers.{WrittenThere}
@@ -45,7 +47,7 @@ pub record Selects (b : ControllerModel) (name : SectorName) : Type 0 where
 pub selects : (b : ControllerModel) (name : SectorName) → sector_now b ≡ Some name → Selects b name
 selects b name e = by_selection (selected b.state.registers.sdh) refl e
   where
-    by_selection : (o : Option Selection) → selected b.state.registers.sdh ≡ o → named_by o b ≡ Some name → Selects b name
+    by_selection : (o : Option Selection) → selected b.state.registers.sdh ≡ o → option_map (λ at. sector_named at b.state.registers) o ≡ Some name → Selects b name
     by_selection (Some at) is e = record { at = at; chosen = is; named = cc }
     by_selection None is e = cc
 
@@ -232,7 +234,7 @@ module _ (b : ControllerModel) (at : Selection) (m : ReadMode) (x : Writing) (be
     next = by_place (eqb d.cylinder goal) refl (leads at e (Read (job k)) t.phase chosen_still)
       where
         ready : d.ready ≡ true
-        ready = (read_selected e (job k) t.order t.phase name (ap (λ o. named_by o e) chosen_still ∙ ap (λ r. Some (sector_named at r)) t.registers)).0
+        ready = (read_selected e (job k) t.order t.phase name (ap (option_map (λ at. sector_named at e.state.registers)) chosen_still ∙ ap (λ r. Some (sector_named at r)) t.registers)).0
 
         order : InOrder (called e call.Turn)
         order = order_call e call.Turn t.order

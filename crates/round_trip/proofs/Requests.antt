@@ -11,7 +11,7 @@ use Rattle.task_file.specs.declared.view.DriveView.{DriveView}
 use Rattle.task_file.specs.Commands.{command_of}
 use Rattle.task_file.specs.State.{is_busy, requests}
 use Rattle.task_file.specs.Beginning.{begun}
-use Rattle.task_file.specs.Moving.{drawn}
+use Rattle.task_file.specs.Moving.{drawn_at}
 use Rattle.controller.specs.Access.{state_after_read}
 use Rattle.controller.specs.Model.{ControllerModel, seen}
 use Rattle.controller.specs.declared.call.Call.{Call}
@@ -27,7 +27,7 @@ use Rattle.round_trip.proofs.Waiting.{busy_first}
 -- ---- the call that raises DRQ
 -- a read raises no DRQ
 read_quiet : (s : State) (n : ℕ) → (requests (state_after_read s n).phase && (not (requests s.phase) || false)) ≡ true → ⊥
-unfolding state_after_read drawn
+unfolding state_after_read drawn_at
 read_quiet s n on = grind (arith, nat_tests)
 
 -- nor does a write under a read: a read that is accepted is busy, or aborted

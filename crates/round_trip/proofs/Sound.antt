@@ -15,7 +15,8 @@ use Rattle.drive.specs.declared.answers.SectorId.{SectorId}
 use Rattle.drive.specs.Model.{Sector, no_sector, slot_of, blank_track, Showing, no_id, no_data_mark, wrong_bits, DriveModel, with_track, replaced, track}
 use Rattle.drive.specs.Bounds.{Whole, ADrive}
 use Rattle.drive.specs.Calls.{nearer, on_slot, track_under, shown, attempted, delivered, attempted_at, stepped_in, stepped_out, handed_over, after_read, written, after_write, after_format}
-use Rattle.round_trip.proofs.Tracks.{meant_at, blank_at}
+use Rattle.drive.proofs.Meant.{meant_at}
+use Rattle.round_trip.proofs.Tracks.{blank_at}
 use Rattle.round_trip.proofs.Attempts as attempt
 
 -- a sector has as many bytes as its size code says, and four check bytes
@@ -26,8 +27,8 @@ abbrev pub SizedTrack : List Sector → Type 0
 SizedTrack ss = (k : ℕ) → k < length ss → Sized (get_or ss k no_sector)
 
 pub record Sound (d : DriveModel) : Type 0 where
-  pub inside : d.cylinder < d.cylinders
-  pub few : d.cylinders ≤ 1024
+  pub inside : d.cylinder < d.geometry.cylinders
+  pub few : d.geometry.cylinders ≤ 1024
   pub sized : (c h : ℕ) → SizedTrack (d.track c h)
 
 pub record Buffered (b : SectorBuffer) : Type 0 where
@@ -77,7 +78,7 @@ sound_written d head number size b k slot f s =
       sized = sized_replaced d.track d.cylinder head _ s.sized (sized_set (track_under d head) k _ m.0 (long, f.check_long) (s.sized d.cylinder head));
     }
 
-pub sound_formatted : (d : DriveModel) (head : ℕ) (ids : List SectorId) (size : SizeCode) (check : List ℕ) → length check ≡ 4 → Sound d → Sound (with_track d head (blank_track ids size check) (track head ids size check))
+pub sound_formatted : (d : DriveModel) (head : ℕ) (ids : List SectorId) (size : SizeCode) (check : List ℕ) → length check ≡ 4 → Sound d → Sound (with_track d head (blank_track ids size check) (track d.cylinder head ids size check))
 sound_formatted d head ids size check four s =
     record {
       inside = s.inside;

@@ -1,48 +1,21 @@
 -- Which sector stands at a place on a track, and that writing one moves no other.
-use Rattle.std.proofs.Common.{◌≡◌, ℕ, zero, suc, ◌+◌, ◌<◌, Bool, true, cond, eqb, List, [], ◌∷◌, length, get_or, set, replicate, is_some as option_is_some, Some, None, Option, sym, refl, ap, ◌∙◌, subst, inl, inr, add-zero, arith, get_or-set_other, get_or-set_same}
-use Rattle.std.proofs.lemmas.Bool.{cases_Bool, cond-true, cond-false, and_parts, eqb-true}
+use Rattle.std.proofs.Common.{◌≡◌, ℕ, zero, suc, ◌+◌, ◌<◌, Bool, true, cond, eqb, List, [], ◌∷◌, length, get_or, set, replicate, Some, sym, refl, ap, ◌∙◌, inl, inr, arith, get_or-set_other, get_or-set_same}
+use Rattle.std.proofs.lemmas.Bool.{cases_Bool}
 use Rattle.std.proofs.lemmas.Bool.Decides.{nat_tests}
+use Rattle.std.specs.List.{position_from}
 use Rattle.sector.specs.declared.size.SizeCode.{SizeCode}
-use Rattle.sector.specs.Sizes.{bytes_of, number_of}
+use Rattle.sector.specs.Sizes.{bytes_of}
 use Rattle.drive.specs.declared.answers.SectorId.{SectorId}
-use Rattle.drive.specs.Search.{first_from, first_match}
 use Rattle.drive.specs.Model.{Sector, no_sector, is_meant, slot_of, rewritten, blank_track}
+use Rattle.drive.proofs.Meant.{meant_at}
 use Rattle.round_trip.specs.Ledger.{numbered}
 
--- ---- sizes
--- two codes of one number are one
-pub same_code : (a b : SizeCode) → number_of a ≡ number_of b → a ≡ b
-same_code a b e = grind arith
-
 -- ---- the first match
--- where it is found, it passes the test
-pub found_from : {A : Type 0} (test : A → Bool) (d : A) (i : ℕ) (xs : List A) (k : ℕ) → first_from test i xs ≡ Some k → (j : ℕ) × ((k ≡ i + j) × (j < length xs) × (test (get_or xs j d) ≡ true))
-found_from test d i [] k e = cc
-found_from {A} test d i (x ∷ xs) k e =
-    elim (cases_Bool (test x)) [
-      | inl found_here ↦
-          let at : Some i ≡ Some k = sym (cond-true (test x) (Some i) (first_from test (i + 1) xs) found_here) ∙ e in
-          let here : i ≡ k = cc in
-          (0, (sym here ∙ sym (add-zero i), omega arith, found_here))
-      | inr not_here ↦
-          let later = found_from test d (i + 1) xs k (sym (cond-false (test x) (Some i) (first_from test (i + 1) xs) not_here) ∙ e) in
-          (suc later.0, (omega (arith, later.1.0), omega (arith, later.1.1), later.1.2))
-    ]
-
 -- replacing an element by one that passes the test alike moves no first match
-pub first_set : {A : Type 0} (test : A → Bool) (d : A) (i : ℕ) (xs : List A) (k : ℕ) (y : A) → test y ≡ test (get_or xs k d) → first_from test i (set xs k y) ≡ first_from test i xs
+pub first_set : {A : Type 0} (test : A → Bool) (d : A) (i : ℕ) (xs : List A) (k : ℕ) (y : A) → test y ≡ test (get_or xs k d) → position_from test i (set xs k y) ≡ position_from test i xs
 first_set test d i [] k y e = refl
-first_set test d i (x ∷ xs) zero y e = ap (λ t. cond t (Some i) (first_from test (i + 1) xs)) e
+first_set test d i (x ∷ xs) zero y e = ap (λ t. cond t (Some i) (position_from test (i + 1) xs)) e
 first_set test d i (x ∷ xs) (suc k) y e = ap (λ o. cond (test x) (Some i) o) (first_set test d (i + 1) xs k y e)
-
--- the sector meant has its number and its size code, and lies on the track
-pub meant_at : (track : List Sector) (number : ℕ) (size : SizeCode) (k : ℕ) → slot_of track number size ≡ Some k → (k < length track) × ((get_or track k no_sector).number ≡ number) × ((get_or track k no_sector).size ≡ size)
-meant_at track number size k e =
-    let f = found_from (is_meant number size) no_sector 0 track k e in
-    let j : f.0 ≡ k = omega (arith, f.1.0) in
-    let t : is_meant number size (get_or track k no_sector) ≡ true = subst (λ n. is_meant number size (get_or track n no_sector) ≡ true) j f.1.2 in
-    let parts = and_parts (eqb (get_or track k no_sector).number number) _ t in
-    (omega (arith, f.1.1), eqb-true _ _ parts.0, same_code _ _ (eqb-true _ _ parts.1))
 
 -- ---- a sector written
 -- at a place there stands, first of its number and size code, a sector with these bytes and check bytes
@@ -88,24 +61,23 @@ module _ (track : List Sector) (number : ℕ) (size : SizeCode) (k : ℕ) (bytes
       }
 
 -- ---- a track formatted
--- a format's first sector of a number is its first ID of that number
-blank_first : (ids : List SectorId) (size : SizeCode) (check : List ℕ) (number i : ℕ) → first_from (is_meant number size) i (blank_track ids size check) ≡ first_from (λ (id : SectorId). eqb id.number number) i ids
-blank_first [] size check number i = refl
-blank_first (id ∷ ids) size check number i = grind (arith, nat_tests, blank_first ids size check number (i + 1))
+-- a number that a format gives stands on its track
+blank_first : (ids : List SectorId) (size : SizeCode) (check : List ℕ) (number i : ℕ) → numbered ids number ≡ true → (k : ℕ) × (position_from (is_meant number size) i (blank_track ids size check) ≡ Some k)
+blank_first [] size check number i e = cc
+blank_first (id ∷ ids) size check number i e =
+    elim (cases_Bool (eqb id.number number)) [
+      | inl is ↦ (i, grind (arith, nat_tests, is))
+      | inr other ↦ let later = blank_first ids size check number (i + 1) (grind (arith, e, other)) in (later.0, grind (arith, nat_tests, other, later.1))
+    ]
 
 pub blank_at : (ids : List SectorId) (size : SizeCode) (check : List ℕ) (k : ℕ) → k < length (blank_track ids size check) → ((get_or (blank_track ids size check) k no_sector).bytes ≡ replicate (bytes_of size) 0) × ((get_or (blank_track ids size check) k no_sector).check ≡ check) × ((get_or (blank_track ids size check) k no_sector).size ≡ size)
 blank_at [] size check k h = absurd (omega arith)
 blank_at (id ∷ ids) size check zero h = (refl, refl, refl)
 blank_at (id ∷ ids) size check (suc k) h = blank_at ids size check k (omega arith)
 
-is_some : {A : Type 0} (o : Option A) → option_is_some o ≡ true → (x : A) × (o ≡ Some x)
-is_some (Some x) e = (x, refl)
-is_some None e = cc
-
 pub stands_formatted : (ids : List SectorId) (size : SizeCode) (check : List ℕ) (number : ℕ) → numbered ids number ≡ true → Stands (blank_track ids size check) number size (replicate (bytes_of size) 0) check
 stands_formatted ids size check number e =
-    let f = is_some (first_match (λ (id : SectorId). eqb id.number number) ids) e in
-    let slot : slot_of (blank_track ids size check) number size ≡ Some f.0 = blank_first ids size check number 0 ∙ f.1 in
-    let here = (meant_at (blank_track ids size check) number size f.0 slot).0 in
+    let f = blank_first ids size check number 0 e in
+    let here = (meant_at (blank_track ids size check) number size f.0 f.1).0 in
     let is = blank_at ids size check f.0 here in
-    record { slot = f.0; found = slot; bytes_are = is.0; check_are = is.1 }
+    record { slot = f.0; found = f.1; bytes_are = is.0; check_are = is.1 }

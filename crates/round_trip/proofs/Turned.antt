@@ -7,7 +7,7 @@ use Rattle.drive.specs.declared.answers.WriteError.{WriteError}
 use Rattle.drive.specs.Model.{slot_of, blank_track, DriveModel, replaced}
 use Rattle.drive.specs.Calls.{nearer, stepped_in, stepped_out, read_answer, handed_over, after_read, write_answer, format_answer}
 use Rattle.task_file.specs.declared.bay.Bay.{Bay}
-use Rattle.task_file.specs.declared.bay.Selection.{Selection}
+use Rattle.task_file.specs.declared.sdh.Selection.{Selection}
 use Rattle.task_file.specs.declared.command.Command.{Command}
 use Rattle.task_file.specs.declared.command.Command.TheVariants as command
 use Rattle.task_file.specs.declared.state.ReadJob.{ReadJob}
@@ -16,9 +16,11 @@ use Rattle.task_file.specs.declared.state.Job.{Job}
 use Rattle.task_file.specs.declared.state.Job.TheVariants.{Test, Restore, Seek, Read, Write, Format}
 use Rattle.task_file.specs.declared.state.Phase.TheVariants.{Busy}
 use Rattle.task_file.specs.declared.state.State.{State}
-use Rattle.task_file.specs.Registers.{cylinder_of, size_at, mode_at, sector_count}
-use Rattle.task_file.specs.State.{with_phase, with_buffer, ended, requests}
-use Rattle.task_file.specs.Attempts.{ids_of, zero_check}
+use Rattle.task_file.specs.Registers.{cylinder_of, sector_count}
+use Rattle.task_file.specs.Sdh.{size_at, mode_at}
+use Rattle.task_file.specs.State.{ended, requests}
+use Rattle.task_file.specs.Attempts.{zero_check}
+use Rattle.task_file.specs.Pairs.{ids_of}
 use Rattle.controller.specs.Turns.{Turned, turned, restore_turn, once_there, read_act, write_act, format_act, ids_asked, worked}
 use Rattle.round_trip.specs.Events.{track_named, sector_named, Event, nothing, sector_written, track_formatted}
 use Rattle.round_trip.proofs.Tracks.{rewritten_at}
@@ -121,7 +123,7 @@ module _ (at : Selection) (taken : List ℕ) (o : Option Command) (s : State) (d
       let size = size_at s.registers.sdh in
       record {
         sound = sound_read d at.head number sound;
-        kept = read_kept _ o j a (read_answer d at.head number size) (with_buffer s (handed_over d at.head number size s.buffer)) at (handed_buffered d at.head number size s.buffer sound f);
+        kept = read_kept _ o j a (read_answer d at.head number size) (record s { buffer = handed_over d at.head number size s.buffer }) at (handed_buffered d at.head number size s.buffer sound f);
         changes = unchanged_read d at.head number;
       }
 
@@ -134,7 +136,7 @@ module _ (at : Selection) (taken : List ℕ) (o : Option Command) (s : State) (d
   write_result : (j : WriteJob) → s.phase ≡ Busy (Write j) → Kept taken o s → R (write_event_by (eqb d.cylinder goal) at s j d) (once_there s d (write_act s j at d))
   write_result j e k = by_place (eqb d.cylinder goal) refl
     where
-      again : Kept taken o (with_phase s (Busy (Write j)))
+      again : Kept taken o (record s { phase = Busy (Write j) })
       again = record { buffered = k.buffered; fits = subst (λ p. TakenFits p s.registers s.buffer taken) e k.fits; agrees = subst (λ p. Agrees p o) e k.agrees }
 
       by_place : (there : Bool) → eqb d.cylinder goal ≡ there → R (write_event_by there at s j d) (cond there (write_act s j at d) (turned s (nearer d goal)))

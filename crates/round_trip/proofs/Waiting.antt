@@ -2,17 +2,18 @@
 use Rattle.std.proofs.Common.{◌≡◌, ℕ, ◌+◌, ◌-◌, ◌<◌, ◌≤◌, Bool, true, false, ◌⊎◌, List, [], ◌∷◌, ◌++◌, Some, None, Option, sym, refl, ap, ◌∙◌, subst, inl, inr, append_assoc, arith}
 use Rattle.std.proofs.lemmas.Bool.{both_ways, cases_lt, cases_eq, cases_Bool}
 use Rattle.std.proofs.lemmas.Bool.Decides.{nat_tests}
-use Rattle.task_file.specs.declared.bay.Selection.{Selection}
+use Rattle.task_file.specs.declared.sdh.Selection.{Selection}
 use Rattle.task_file.specs.declared.state.Job.{Job}
 use Rattle.task_file.specs.declared.state.Phase.{Phase}
 use Rattle.task_file.specs.declared.state.Phase.TheVariants.{Busy}
 use Rattle.task_file.specs.declared.state.State.{State}
 use Rattle.task_file.specs.declared.view.DriveView.{DriveView}
-use Rattle.task_file.specs.Registers.{cylinder_of, selected}
-use Rattle.task_file.specs.State.{with_intrq, is_busy}
+use Rattle.task_file.specs.Registers.{cylinder_of}
+use Rattle.task_file.specs.Sdh.{selected}
+use Rattle.task_file.specs.State.{is_busy}
 use Rattle.controller.specs.Access.{state_after_read, state_after_write}
 use Rattle.controller.specs.Turns.{Turned, worked}
-use Rattle.controller.specs.Model.{ControllerModel, with_state, with_drive, seen, turned_in}
+use Rattle.controller.specs.Model.{ControllerModel, with_drive, seen, turned_in}
 use Rattle.controller.specs.declared.call.Call.{Call}
 use Rattle.controller.specs.declared.call.Call.TheVariants as call
 use Rattle.controller.specs.Runs.{called, runs, IsNew}
@@ -20,7 +21,7 @@ use Rattle.histories.specs.Working.{InOrder}
 use Rattle.controller.proofs.Runs.{runs_joined}
 use Rattle.histories.proofs.Working.{left_in}
 use Rattle.histories.proofs.Orders.{head_in, left, turn_falls, order_call, none_left, Within, left_most}
-use Rattle.round_trip.specs.Events.{busy, turn_event_on, turn_event, event_of}
+use Rattle.round_trip.specs.Events.{busy, turn_event, event_of}
 use Rattle.round_trip.specs.Ledger.{Notes, notes_of}
 use Rattle.round_trip.specs.Laws.{BusyThroughout, turn_count, LeftAlone, NothingElseMoves, BusyEnds}
 use Rattle.round_trip.proofs.Ledgers.{left_alone}
@@ -28,7 +29,7 @@ use Rattle.round_trip.proofs.Held.{Held, held_at, event_is, job_turn, idle_event
 
 -- ---- calls while BUSY is on
 -- a read can only turn the interrupt off
-pub busy_read : (s : State) (n : ℕ) → is_busy s.phase ≡ true → (state_after_read s n ≡ s) ⊎ (state_after_read s n ≡ with_intrq s false)
+pub busy_read : (s : State) (n : ℕ) → is_busy s.phase ≡ true → (state_after_read s n ≡ s) ⊎ (state_after_read s n ≡ record s { intrq = false })
 unfolding state_after_read
 busy_read s n on = elim (cases_eq n 7) [ inl e ↦ inr (grind (arith, nat_tests)) | inr other ↦ inl (grind (arith, nat_tests)) ]
 
@@ -38,15 +39,15 @@ unfolding state_after_write
 busy_write v s n byte on = grind arith
 
 -- so a register read leaves the controller but for the interrupt, and a register write leaves it the very same
-pub read_waits : (b : ControllerModel) (n : ℕ) → busy b ≡ true → (i : Bool) × (called b (call.Read n) ≡ with_state b (with_intrq b.state i))
+pub read_waits : (b : ControllerModel) (n : ℕ) → busy b ≡ true → (i : Bool) × (called b (call.Read n) ≡ record b { state = record b.state { intrq = i } })
 read_waits b n on =
     elim (busy_read b.state n on) [
-      | inl same ↦ (b.state.intrq, ap (with_state b) same)
-      | inr off ↦ (false, ap (with_state b) off)
+      | inl same ↦ (b.state.intrq, ap (λ (s : State). record b { state = s }) same)
+      | inr off ↦ (false, ap (λ (s : State). record b { state = s }) off)
     ]
 
 pub write_waits : (b : ControllerModel) (n byte : ℕ) → busy b ≡ true → called b (call.Write n byte) ≡ b
-write_waits b n byte on = ap (with_state b) (busy_write (seen b) b.state n byte on)
+write_waits b n byte on = ap (λ (s : State). record b { state = s }) (busy_write (seen b) b.state n byte on)
 
 -- ---- BUSY all along
 pub busy_first : (b : ControllerModel) (cs : List Call) → BusyThroughout b cs → busy b ≡ true
@@ -68,11 +69,11 @@ turns_joined (call.Reset ∷ cs) ds = turns_joined cs ds
 
 -- ---- a turn brings BUSY off
 -- whatever the interrupt, as many turns are left
-head_same : (sel : Option Selection) (b : ControllerModel) (s : State) → head_in sel (with_state b s) ≡ head_in sel b
+head_same : (sel : Option Selection) (b : ControllerModel) (s : State) → head_in sel (record b { state = s }) ≡ head_in sel b
 head_same sel b s = grind arith
 
-left_same : (b : ControllerModel) (i : Bool) → left (with_state b (with_intrq b.state i)) ≡ left b
-left_same b i = ap (λ h. left_in b.state.phase h (cylinder_of b.state.registers)) (head_same (selected b.state.registers.sdh) b (with_intrq b.state i))
+left_same : (b : ControllerModel) (i : Bool) → left (record b { state = record b.state { intrq = i } }) ≡ left b
+left_same b i = ap (λ h. left_in b.state.phase h (cylinder_of b.state.registers)) (head_same (selected b.state.registers.sdh) b (record b.state { intrq = i }))
 
 -- while BUSY is on a turn is left
 some_left : (b : ControllerModel) → InOrder b → busy b ≡ true → 1 ≤ left b
@@ -163,7 +164,7 @@ busy_ends new is_new history before after split enough =
 -- a turn on one of the drives
 alone_job : (at : Selection) (j : Job) (n : Notes) (b : ControllerModel) → Held n b → b.state.phase ≡ Busy j
     → (t : Turned) → t ≡ worked j b.state at (b.drives at.bay) → (e : ControllerModel) → e ≡ with_drive b t.state at.bay t.drive
-    → LeftAlone (turn_event_on (Busy j) at b) b e
+    → LeftAlone (turn_event (Busy j) (Some at) b) b e
 alone_job at j n b h phase t is e made =
     let r = job_turn at j n b h phase t is e made in
     rw (event_is j at b) (left_alone at.bay b e r.others b.state.buffer _ r.changes)

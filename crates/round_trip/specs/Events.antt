@@ -1,18 +1,19 @@
 -- What a call does that a host, or a reader of the disks, can tell.
-use Rattle.std.specs.Prelude.{ℕ, min, Bool, true, false, cond, not, ◌&&◌, ◌||◌, is_some, Some, None, Ok, Err, Option, is_ok, ◌==◌}
+use Rattle.std.specs.Prelude.{ℕ, min, Bool, true, false, cond, not, ◌&&◌, ◌||◌, is_some, Some, None, Ok, Option, is_ok, ◌==◌}
 use Rattle.sector.specs.declared.size.SizeCode.{SizeCode}
 use Rattle.sector.specs.Sizes.{number_of}
 use Rattle.check_code.specs.declared.mode.CheckMode.{CheckMode}
 use Rattle.drive.specs.Calls.{write_answer, format_answer}
 use Rattle.task_file.specs.declared.registers.Registers.{Registers}
 use Rattle.task_file.specs.declared.bay.Bay.{Bay}
-use Rattle.task_file.specs.declared.bay.Selection.{Selection}
+use Rattle.task_file.specs.declared.sdh.Selection.{Selection}
 use Rattle.task_file.specs.declared.state.WriteJob.{WriteJob}
-use Rattle.task_file.specs.declared.state.Job.TheVariants.{Test, Restore, Seek, Read, Write, Format}
+use Rattle.task_file.specs.declared.state.Job.TheVariants.{Write, Format}
 use Rattle.task_file.specs.declared.state.Phase.{Phase}
-use Rattle.task_file.specs.declared.state.Phase.TheVariants.{Rest, Busy, Offering, Taking}
+use Rattle.task_file.specs.declared.state.Phase.TheVariants.{Busy}
 use Rattle.task_file.specs.Bays.{same_bay}
-use Rattle.task_file.specs.Registers.{cylinder_of, size_at, mode_at, selected, sector_count}
+use Rattle.task_file.specs.Registers.{cylinder_of, sector_count}
+use Rattle.task_file.specs.Sdh.{size_at, mode_at, selected}
 use Rattle.task_file.specs.State.{is_busy, requests}
 use Rattle.controller.specs.Turns.{ids_asked}
 use Rattle.controller.specs.Model.{ControllerModel}
@@ -36,15 +37,12 @@ error b = is_some b.state.failure
 -- a call is done, and gives no byte
 abbrev pub is_done : Answer → Bool
 is_done (Ok None) = true
-is_done (Ok (Some byte)) = false
-is_done (Err why) = false
+is_done answer = false
 
 -- the call is an accepted command
 abbrev pub accepts : ControllerModel → Call → Bool
-accepts b (call.Read n) = false
 accepts b (call.Write n byte) = n == 7 && is_done (answer_to b (call.Write n byte))
-accepts b call.Turn = false
-accepts b call.Reset = false
+accepts b c = false
 
 -- DRQ comes on: it is on after the call, and was off before or was cleared by an accepted command
 abbrev pub drq_comes_on : ControllerModel → Call → Bool
@@ -114,26 +112,14 @@ format_event at b =
     (track_formatted (track_named at r) (min (sector_count r) 64) (size_at r.sdh) (mode_at r.sdh))
     nothing
 
--- what a turn does to the selected track of a drive
-abbrev pub turn_event_on : Phase → Selection → ControllerModel → Event
-turn_event_on Rest at b = nothing
-turn_event_on (Busy Test) at b = nothing
-turn_event_on (Busy (Restore k)) at b = nothing
-turn_event_on (Busy Seek) at b = nothing
-turn_event_on (Busy (Read j)) at b = nothing
-turn_event_on (Busy (Write j)) at b = write_event j at b
-turn_event_on (Busy Format) at b = format_event at b
-turn_event_on (Offering m p) at b = nothing
-turn_event_on (Taking l p) at b = nothing
-
 -- what a turn does to the tracks of the drive that SDH selects
 abbrev pub turn_event : Phase → Option Selection → ControllerModel → Event
-turn_event p (Some at) b = turn_event_on p at b
 turn_event p None b = nothing
+turn_event (Busy (Write j)) (Some at) b = write_event j at b
+turn_event (Busy Format) (Some at) b = format_event at b
+turn_event p sel b = nothing
 
 -- what a call does to the disks: only a turn does anything
 unfoldable pub event_of : ControllerModel → Call → Event
-event_of b (call.Read n) = nothing
-event_of b (call.Write n byte) = nothing
 event_of b call.Turn = turn_event b.state.phase (selected b.state.registers.sdh) b
-event_of b call.Reset = nothing
+event_of b c = nothing

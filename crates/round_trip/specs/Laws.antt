@@ -1,5 +1,6 @@
 -- The script read stays the sheet written: the laws over whole histories.
-use Rattle.std.specs.Prelude.{◌≡◌, ℕ, suc, ◌+◌, ◌*◌, ◌<◌, ◌≤◌, Bool, true, false, cond, ◌&&◌, ◌⊎◌, List, [], ◌∷◌, ◌++◌, length, get_or, Some, None, Ok, Err, Option, ◌==◌, ◌≢◌, slice_index, slice_index_or}
+use Rattle.std.specs.Prelude.{◌≡◌, ℕ, suc, ◌+◌, ◌*◌, ◌<◌, ◌≤◌, Bool, true, false, cond, ◌&&◌, ◌⊎◌, List, [], ◌∷◌, ◌++◌, length, Some, Ok, Option, ◌==◌, ◌≢◌, slice_index, slice_index_or}
+use Rattle.std.specs.Option.{option_map}
 use Rattle.sector.specs.Sizes.{bytes_of}
 use Rattle.sector.specs.Bits.{OneBurst}
 use Rattle.check_code.specs.declared.mode.CheckMode.{CheckMode}
@@ -7,15 +8,14 @@ use Rattle.check_code.specs.declared.mode.CheckMode.TheVariants.{Crc, Ecc}
 use Rattle.check_code.specs.Code.{width}
 use Rattle.check_code.specs.Mode.{code_of}
 use Rattle.burst.specs.Mending.{AtMostOneBurst}
-use Rattle.drive.specs.Model.{Sector, no_sector, slot_of, Showing, no_id, no_data_mark, wrong_bits}
-use Rattle.task_file.specs.declared.bay.Selection.{Selection}
+use Rattle.drive.specs.Model.{Sector, no_sector, slot_of, Showing, wrong_bits}
 use Rattle.task_file.specs.declared.command.Command.TheVariants.{Read}
 use Rattle.task_file.specs.declared.command.ReadMode.{ReadMode}
-use Rattle.task_file.specs.Registers.{mode_at, selected}
+use Rattle.task_file.specs.Sdh.{mode_at, selected}
 use Rattle.controller.specs.Model.{ControllerModel}
 use Rattle.controller.specs.declared.call.Call.{Call}
 use Rattle.controller.specs.declared.call.Call.TheVariants as call
-use Rattle.controller.specs.Runs.{Answer, byte_read, answer_to, called, runs, answers, IsNew}
+use Rattle.controller.specs.Runs.{Answer, byte_read, answer_to, called, runs, IsNew, Ran}
 use Rattle.round_trip.specs.Events.{busy, drq, error, accepts, drq_comes_on, busy_comes_on, TrackName, SectorName, same_track, sector_named, Event, nothing, sector_written, track_formatted, event_of}
 use Rattle.round_trip.specs.Ledger.{Writing, Notes, notes_of}
 
@@ -26,37 +26,27 @@ used_bits mode name = 8 * bytes_of name.size + width (code_of mode)
 
 -- of the first `bits` none is wrong, or those that are make one burst
 abbrev pub Mild : ℕ → Showing → Type 0
-Mild bits no_id = Unit {0}
-Mild bits no_data_mark = Unit {0}
 Mild bits (wrong_bits w) = AtMostOneBurst w bits
+Mild bits hidden = Unit {0}
 
 -- an intact attempt delivers, with no wrong bit in the bytes or the check bytes that its code uses
 abbrev pub Intact : ℕ → Showing → Type 0
-Intact bits no_id = ⊥
-Intact bits no_data_mark = ⊥
 Intact bits (wrong_bits w) = (i : ℕ) → i < bits → w i ≡ false
+Intact bits hidden = ⊥
 
 -- two attempts show the same burst among the first `bits`
 abbrev pub SameBurst : ℕ → Showing → Showing → Type 0
-SameBurst bits no_id s = ⊥
-SameBurst bits no_data_mark s = ⊥
-SameBurst bits (wrong_bits w) no_id = ⊥
-SameBurst bits (wrong_bits w) no_data_mark = ⊥
 SameBurst bits (wrong_bits w) (wrong_bits u) = OneBurst w bits × ((i : ℕ) → i < bits → w i ≡ u i)
+SameBurst bits s t = ⊥
 
 -- what the attempts to come at a sector's place show
 abbrev pub outlook_at : ControllerModel → SectorName → ℕ → Showing
 outlook_at b name = (b.drives name.track.bay).outlook name.track.cylinder name.track.head name.number
 
 -- ---- a read
--- the sector that the registers name on the selected drive
-abbrev pub named_by : Option Selection → ControllerModel → Option SectorName
-named_by (Some at) b = Some (sector_named at b.state.registers)
-named_by None b = None
-
 -- the sector that the registers name now, if SDH selects a drive
 abbrev pub sector_now : ControllerModel → Option SectorName
-sector_now b = named_by (selected b.state.registers.sdh) b
+sector_now b = option_map (λ at. sector_named at b.state.registers) (selected b.state.registers.sdh)
 
 -- A plain read is in force, its sector has a last writing, plain and in the read's check mode, and of its next nine
 -- attempts each shows at most one burst.
@@ -73,7 +63,7 @@ pub record PlainRead (b : ControllerModel) (n : Notes) (m : ReadMode) (name : Se
 abbrev pub StandsUnmarked : ControllerModel → SectorName → Type 0
 StandsUnmarked b name =
     let track = (b.drives name.track.bay).track name.track.cylinder name.track.head in
-    (k : ℕ) × ((slot_of track name.number name.size ≡ Some k) × ((get_or track k no_sector).bad ≡ false))
+    (k : ℕ) × ((slot_of track name.number name.size ≡ Some k) × ((slice_index_or track k no_sector).bad ≡ false))
 
 -- under ECC two neighbours of the nine show the same burst
 abbrev pub Neighbours : CheckMode → ℕ → (ℕ → Showing) → Type 0
@@ -98,15 +88,12 @@ DrqThroughout b (c ∷ cs) = (drq b ≡ true) × (accepts b c ≡ false) × DrqT
 -- the answer of a read that gives a byte
 abbrev pub is_byte : Answer → Bool
 is_byte (Ok (Some byte)) = true
-is_byte (Ok None) = false
-is_byte (Err why) = false
+is_byte answer = false
 
 -- a data read that is answered draws a byte
 abbrev pub draws : ControllerModel → Call → ℕ
 draws b (call.Read n) = cond (n == 0 && is_byte (answer_to b (call.Read n))) 1 0
-draws b (call.Write n byte) = 0
-draws b call.Turn = 0
-draws b call.Reset = 0
+draws b c = 0
 
 -- how many bytes are drawn
 abbrev pub drawn_in : ControllerModel → List Call → ℕ
@@ -116,18 +103,14 @@ drawn_in b (c ∷ cs) = draws b c + drawn_in (called b c) cs
 -- how many turns there are
 abbrev pub turn_count : List Call → ℕ
 turn_count [] = 0
-turn_count (call.Read n ∷ cs) = turn_count cs
-turn_count (call.Write n byte ∷ cs) = turn_count cs
 turn_count (call.Turn ∷ cs) = suc (turn_count cs)
-turn_count (call.Reset ∷ cs) = turn_count cs
+turn_count (c ∷ cs) = turn_count cs
 
 -- no master reset is among the calls
 abbrev pub NoReset : List Call → Type 0
 NoReset [] = Unit {0}
-NoReset (call.Read n ∷ cs) = NoReset cs
-NoReset (call.Write n byte ∷ cs) = NoReset cs
-NoReset (call.Turn ∷ cs) = NoReset cs
 NoReset (call.Reset ∷ cs) = ⊥
+NoReset (c ∷ cs) = NoReset cs
 
 -- ---- the laws, each of a history from a new controller on
 -- Same bytes. BUSY comes on for a sector of a plain read and stays on until a turn raises DRQ. With Error off, a data read
@@ -224,9 +207,7 @@ pub record RoundTrip (new : ControllerModel) (history : List Call) : Type 0 wher
 unfoldable pub ScriptIsSheet : Type 0
 ScriptIsSheet = (new : ControllerModel) → IsNew new → (history : List Call) → RoundTrip new history
 
--- What a run tells: every history that led from a new controller to the controller as it came in, continued by these
--- calls, leads to the controller as it is now, each answer is its call's, and the laws hold of it.
-unfoldable pub Tells : ControllerModel → List Call → List Answer → ControllerModel → Type 0
-Tells old calls given now =
-    (new : ControllerModel) → IsNew new → (history : List Call) → runs new history ≡ old
-    → (runs new (history ++ calls) ≡ now) × (given ≡ answers (runs new history) calls) × RoundTrip new (history ++ calls)
+-- What a run tells: what its calls tell, and that the laws hold of every history that led to where it began, continued by them.
+pub record Tells (before : ControllerModel) (calls : List Call) (given : List Answer) (after : ControllerModel) : Type 0 where
+  pub ran : Ran before calls given after
+  pub laws : (new : ControllerModel) → IsNew new → (history : List Call) → runs new history ≡ before → RoundTrip new (history ++ calls)

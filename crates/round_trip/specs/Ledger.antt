@@ -1,12 +1,12 @@
 -- The last writing of each sector: what follows from the drives of a new controller, the calls and their arguments alone.
-use Rattle.std.specs.Prelude.{ℕ, Bool, true, cond, ◌&&◌, List, [], ◌∷◌, ◌++◌, replicate, is_some, Some, None, Option, ◌==◌, nat_eq}
+use Rattle.std.specs.Prelude.{ℕ, Bool, true, cond, ◌&&◌, List, [], ◌∷◌, ◌++◌, replicate, Some, None, Option, ◌==◌}
+use Rattle.std.specs.List.{list_any}
 use Rattle.sector.specs.Sizes.{bytes_of}
 use Rattle.check_code.specs.declared.mode.CheckMode.{CheckMode}
 use Rattle.drive.specs.declared.answers.SectorId.{SectorId}
-use Rattle.drive.specs.Search.{first_match}
 use Rattle.task_file.specs.declared.command.Command.{Command}
 use Rattle.task_file.specs.Commands.{command_of}
-use Rattle.task_file.specs.Attempts.{ids_of}
+use Rattle.task_file.specs.Pairs.{ids_of}
 use Rattle.controller.specs.Model.{ControllerModel}
 use Rattle.controller.specs.declared.call.Call.{Call}
 use Rattle.controller.specs.declared.call.Call.TheVariants as call
@@ -29,7 +29,7 @@ empty_ledger s = None
 
 -- an ID of a format has this number
 abbrev pub numbered : List SectorId → ℕ → Bool
-numbered ids number = is_some (first_match (λ id. nat_eq id.number number) ids)
+numbered ids number = list_any (λ id. id.number == number) ids
 
 -- A written sector is entered with the bytes taken. A format strikes out its track's entries, and enters zeros, plain, for
 -- each number that the bytes taken give.
@@ -55,17 +55,14 @@ no_notes = record { taken = []; ledger = empty_ledger; in_force = None }
 
 -- a data byte that is not refused is taken
 abbrev pub taken_by : ControllerModel → Call → List ℕ → List ℕ
-taken_by b (call.Read n) taken = taken
 taken_by b (call.Write n byte) taken = cond (n == 0 && is_done (answer_to b (call.Write n byte))) (taken ++ (byte ∷ [])) taken
-taken_by b call.Turn taken = taken
-taken_by b call.Reset taken = taken
+taken_by b c taken = taken
 
 -- the command in force, which is the last accepted one, after a call
 abbrev pub forced_by : ControllerModel → Call → Option Command → Option Command
-forced_by b (call.Read n) o = o
 forced_by b (call.Write n byte) o = cond (accepts b (call.Write n byte)) (command_of byte) o
-forced_by b call.Turn o = o
 forced_by b call.Reset o = None
+forced_by b c o = o
 
 -- what a call adds to the notes
 abbrev pub noted : ControllerModel → Call → Notes → Notes

@@ -2,7 +2,7 @@
 ghost use Rattle.std.specs.Prelude.{◌≡◌, MatchResult};
 ghost use Rattle.controller.specs.Model.{drives_of, made};
 ghost use Rattle.controller.specs.Controller.{model_of};
-ghost use Rattle.controller.specs.Runs.{answers, runs};
+ghost use Rattle.controller.specs.Runs.{Ran};
 ghost use Rattle.round_trip.specs.Laws.{RoundTrip, Tells};
 
 use controller::{Answer, Call, Controller};
@@ -12,25 +12,17 @@ use task_file::BAYS;
 
 /// Makes the calls, and hands back every answer. Where memory is wanting for the answers, no call
 /// is made.
-#[tactic(auto, using(crate::proofs::Laws::tells))]
 pub fn run<D: Drive>(
     controller: &mut Controller<D>,
     heap: Global,
     calls: &[Call],
 ) -> Result<Vec<Answer>, AllocError>
-    ensures answers { MatchResult result
-        (λ v. v.items ≡ answers (model_of D.meaning controller.old) calls.now)
-        (λ _. controller.new ≡ controller.old) }
-    ensures after { MatchResult result
-        (λ _. model_of D.meaning controller.new
-        ≡ runs (model_of D.meaning controller.old) calls.now)
-        (λ _. controller.new ≡ controller.old) }
-    ensures laws { MatchResult result
+    ensures { MatchResult result
         (λ v. Tells (model_of D.meaning controller.old) calls.now v.items
         (model_of D.meaning controller.new))
         (λ _. controller.new ≡ controller.old) }
 {
-    let answers = histories::run(controller, heap, calls)?;
+    let answers = histories::make_calls(controller, heap, calls)?;
     Ok(answers)
 }
 
@@ -42,11 +34,9 @@ pub fn run_anew<D: Drive>(
     heap: Global,
     calls: &[Call],
 ) -> (Controller<D>, Result<Vec<Answer>, AllocError>)
-    ensures answers { MatchResult result.1
-        (λ v. v.items ≡ answers (made (drives_of D.meaning drives)) calls.now)
-        (λ _. model_of D.meaning result.0 ≡ made (drives_of D.meaning drives)) }
-    ensures after { MatchResult result.1
-        (λ _. model_of D.meaning result.0 ≡ runs (made (drives_of D.meaning drives)) calls.now)
+    ensures outcome { MatchResult result.1
+        (λ v. Ran (made (drives_of D.meaning drives)) calls.now v.items
+        (model_of D.meaning result.0))
         (λ _. model_of D.meaning result.0 ≡ made (drives_of D.meaning drives)) }
     ensures laws { RoundTrip (made (drives_of D.meaning drives)) calls.now }
 {

@@ -1,4 +1,4 @@
-pub mod Every
+pub mod Fed
 pub mod Inverted
 pub mod Marked
 pub mod Sizes

@@ -1,5 +1,5 @@
 -- The four sector sizes and their codes.
-use Rattle.std.specs.Prelude.{ℕ, cond, Some, None, Option, ◌==◌}
+use Rattle.std.specs.Prelude.{ℕ, ◌%◌, cond, Some, None, Option, ◌==◌}
 use Rattle.sector.specs.declared.size.SizeCode.{SizeCode}
 use Rattle.sector.specs.declared.size.SizeCode.TheVariants.{Bytes256, Bytes512, Bytes1024, Bytes128}
 
@@ -22,7 +22,7 @@ abbrev pub size_with : ℕ → Option SizeCode
 size_with bytes =
     cond (bytes == 256) (Some Bytes256) (cond (bytes == 512) (Some Bytes512) (cond (bytes == 1024) (Some Bytes1024) (cond (bytes == 128) (Some Bytes128) None)))
 
--- the size that a number names, if it is a code
-abbrev pub size_numbered : ℕ → Option SizeCode
+-- the size that a number names: of the number only its lowest two bits count
+abbrev pub size_numbered : ℕ → SizeCode
 size_numbered number =
-    cond (number == 0) (Some Bytes256) (cond (number == 1) (Some Bytes512) (cond (number == 2) (Some Bytes1024) (cond (number == 3) (Some Bytes128) None)))
+    cond (number % 4 == 0) Bytes256 (cond (number % 4 == 1) Bytes512 (cond (number % 4 == 2) Bytes1024 Bytes128))

@@ -8,5 +8,5 @@
 mod size;
 mod wrong_bits;
 
-pub use size::{NoSuchSize, SizeCode};
+pub use size::SizeCode;
 pub use wrong_bits::{Burst, invert_burst};

@@ -1,9 +1,6 @@
 //! The four sector sizes and the codes that name them.
 ghost use Rattle.std.specs.Prelude.{◌≡◌};
-ghost use Rattle.std.specs.Result.{result_ok};
 ghost use Rattle.sector.specs.Sizes.{bytes_of, number_of, size_with, size_numbered};
-
-use thiserror::Error;
 
 /// A sector size; its number is its size code.
 #[derive(Clone, Copy, PartialEq, Eq, Debug)]
@@ -12,28 +9,6 @@ pub enum SizeCode {
     Bytes512 = 1,
     Bytes1024 = 2,
     Bytes128 = 3,
-}
-
-/// A number that names no size.
-#[derive(Clone, Copy, PartialEq, Eq, Debug, Error)]
-#[error("no sector size has this code")]
-pub struct NoSuchSize;
-
-impl TryFrom<u8> for SizeCode {
-    type Error = NoSuchSize;
-
-    // The size that the number names, if it is one of the four.
-    ghost try_from_gives = { λ number r. result_ok r ≡ size_numbered number };
-
-    fn try_from(number: u8) -> Result<SizeCode, NoSuchSize> {
-        match number {
-            0 => Ok(SizeCode::Bytes256),
-            1 => Ok(SizeCode::Bytes512),
-            2 => Ok(SizeCode::Bytes1024),
-            3 => Ok(SizeCode::Bytes128),
-            _ => Err(NoSuchSize),
-        }
-    }
 }
 
 impl From<SizeCode> for u8 {
@@ -45,6 +20,18 @@ impl From<SizeCode> for u8 {
 }
 
 impl SizeCode {
+    /// The size that a code names: of the code only bits 1 and 0 count.
+    pub fn from_code(code: u8) -> SizeCode
+        ensures { result ≡ size_numbered code }
+    {
+        match code % 4 {
+            0 => SizeCode::Bytes256,
+            1 => SizeCode::Bytes512,
+            2 => SizeCode::Bytes1024,
+            _ => SizeCode::Bytes128,
+        }
+    }
+
     /// The size of a sector of so many bytes, or `None` where no sector has this length.
     pub fn from_length(length: usize) -> Option<SizeCode>
         ensures { result ≡ size_with length }

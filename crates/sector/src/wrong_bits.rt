@@ -1,6 +1,6 @@
 //! Wrong bits, and inverting them.
 ghost use Rattle.std.specs.Prelude.{◌≡◌, ◌+◌, nat_eq};
-ghost use Rattle.sector.specs.Bits.{inverted, marked, from_bit};
+ghost use Rattle.sector.specs.Bits.{inverted, set_of, from_bit};
 
 use std::fmt;
 
@@ -34,7 +34,7 @@ fn invert_bit(part: &mut [u8], start: usize, bit: usize)
 
 /// Inverts those bits of a burst that lie in `part`, the sector's bytes from bit `start` on.
 pub fn invert_burst(part: &mut [u8], start: u16, burst: Burst)
-    ensures { part.new ≡ inverted (from_bit start (marked burst.first burst.pattern)) part.old }
+    ensures { part.new ≡ inverted (from_bit start (set_of burst)) part.old }
 {
     for k in 0..8u16 {
         if (burst.pattern >> k) % 2 == 1 {

@@ -5,7 +5,7 @@ use Rattle.std.proofs.lemmas.Bool.{cases_lt}
 use Rattle.std.specs.Array.{IsFromFnResultFrom}
 use denote.Param.Members.{Mut, Called}
 use Rattle.drive.specs.declared.answers.SectorId.{SectorId}
-use Rattle.task_file.specs.Attempts.{id_at, ids_of}
+use Rattle.task_file.specs.Pairs.{id_at, ids_of}
 
 module _ {F : Type 0} (g : Mut F (ℕ × Unit {0}) SectorId) (bytes : List ℕ) (f : F)
     (gives : (i : ℕ) (id : SectorId) (f' : F) → Called g f (i, tt) id f' → (id ≡ id_at bytes i) × (f' ≡ f)) (ids : List SectorId) where

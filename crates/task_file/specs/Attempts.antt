@@ -1,24 +1,21 @@
 -- What comes of an attempt at a sector, and of a format.
-use Rattle.std.specs.Prelude.{ℕ, zero, suc, ◌+◌, ◌*◌, min, Bool, true, false, cond, not, ◌&&◌, ◌||◌, List, [], ◌∷◌, ◌++◌, take, drop, replicate, Some, None, Option, Ok, Err, Result, ◌==◌, nat_le, nat_lt, slice_index}
+use Rattle.std.specs.Prelude.{ℕ, ◌+◌, min, Bool, true, false, cond, not, ◌&&◌, ◌||◌, List, ◌++◌, take, drop, replicate, Some, None, Option, Ok, Err, Result, ◌==◌, nat_lt}
 use Rattle.sector.specs.declared.size.SizeCode.{SizeCode}
 use Rattle.sector.specs.declared.wrong_bits.Burst.{Burst}
 use Rattle.sector.specs.Sizes.{bytes_of}
-use Rattle.sector.specs.Bits.{inverted}
+use Rattle.sector.specs.Bits.{inverted, set_of}
 use Rattle.check_code.specs.declared.mode.CheckMode.{CheckMode}
 use Rattle.check_code.specs.Code.{check_bytes_of, difference_of}
 use Rattle.check_code.specs.Mode.{code_of}
-use Rattle.burst.specs.Search.{set_of, first_burst}
+use Rattle.burst.specs.Search.{first_burst}
 use Rattle.drive.specs.declared.buffer.SectorBuffer.{SectorBuffer}
-use Rattle.drive.specs.declared.place.Place.{Place}
-use Rattle.drive.specs.declared.place.SectorAddress.{SectorAddress}
-use Rattle.drive.specs.declared.answers.SectorId.{SectorId}
 use Rattle.drive.specs.declared.answers.ReadError.{ReadError}
 use Rattle.drive.specs.declared.answers.ReadError.TheVariants as read_error
 use Rattle.drive.specs.declared.answers.WriteError.{WriteError}
 use Rattle.drive.specs.declared.answers.WriteError.TheVariants as write_error
 use Rattle.drive.specs.declared.answers.FormatError.{FormatError}
 use Rattle.drive.specs.Calls.{blank_buffer}
-use Rattle.task_file.specs.declared.bay.Selection.{Selection}
+use Rattle.task_file.specs.declared.sdh.Selection.{Selection}
 use Rattle.task_file.specs.declared.registers.Registers.{Registers}
 use Rattle.task_file.specs.declared.command.ReadMode.{ReadMode}
 use Rattle.task_file.specs.declared.command.WriteMode.{WriteMode}
@@ -34,22 +31,15 @@ use Rattle.task_file.specs.declared.state.Phase.TheVariants.{Busy, Offering, Tak
 use Rattle.task_file.specs.declared.state.State.{State}
 use Rattle.task_file.specs.declared.attempts.Verdict.{Verdict}
 use Rattle.task_file.specs.declared.attempts.Verdict.TheVariants.{Take, Correct, Retry, Fail, Abort}
-use Rattle.task_file.specs.Registers.{cylinder_of, size_at, mode_at, next_sector, at_count_0}
+use Rattle.task_file.specs.Registers.{place_under, next_sector}
+use Rattle.task_file.specs.Sdh.{size_at, mode_at}
 use Rattle.task_file.specs.Aborting.{is_ecc}
-use Rattle.task_file.specs.State.{with_registers, with_failure, with_intrq, with_phase, with_buffer, with_corrected, ended, failed}
+use Rattle.task_file.specs.State.{ended, failed}
 
 -- ---- failures
 -- the attempts made at a sector, with one more; they are never more than nine
 abbrev pub attempts_with : ℕ → ℕ
 attempts_with attempts = min attempts 8 + 1
-
--- the place that the registers name, under the selected head
-abbrev pub place_under : Registers → Selection → Place
-place_under r at = record { cylinder = cylinder_of r; head = at.head; number = r.number }
-
--- the sector that they name there
-abbrev pub address_under : Registers → Selection → SectorAddress
-address_under r at = record { head = at.head; number = r.number; size = size_at r.sdh }
 
 -- a failure at the sector that the registers name, after so many attempts and one more
 abbrev pub sector_failure : Registers → Selection → ℕ → SectorError → Failure
@@ -87,26 +77,27 @@ verdict_of mode attempts previous (Ok (Some d)) =
 -- ---- what a read attempt leads to
 -- the buffer is offered; INTRQ comes with the last sector's DRQ unless D is 1
 abbrev pub offering : State → ReadMode → Bool → State
-offering s m last = with_phase (with_intrq s (s.intrq || (last && not m.dma))) (Offering m 0)
+offering s m last = record s { intrq = s.intrq || (last && not m.dma); phase = Offering m 0 }
 
 -- the sector in the buffer is taken: with M = 1 the count goes down and the number up, and it is the last when the count is 0
 abbrev pub sector_taken : State → ReadMode → State
 sector_taken s m =
     cond m.multiple
-    (offering (with_registers s (next_sector s.registers)) m ((next_sector s.registers).count == 0))
+    (offering (record s { registers = next_sector s.registers }) m ((next_sector s.registers).count == 0))
     (offering s m true)
 
 -- a failed read offers as many zeros where it is single, and ends without data where M = 1
 abbrev pub read_failed : State → ReadMode → Failure → State
-read_failed s m f = cond m.multiple (failed s f) (offering (with_buffer (with_failure s f) blank_buffer) m true)
+read_failed s m f = cond m.multiple (failed s f) (offering (record s { failure = Some f; buffer = blank_buffer }) m true)
 
 -- the buffer with a burst mended in the sector's n bytes
 abbrev pub mended_buffer : ℕ → Burst → SectorBuffer → SectorBuffer
-mended_buffer n burst b = record { bytes = inverted (set_of burst) (take n b.bytes) ++ drop n b.bytes; check = b.check }
+mended_buffer n burst b = record b { bytes = inverted (set_of burst) (take n b.bytes) ++ drop n b.bytes }
 
 -- a correction: by the burst that the search takes, or a data error where no burst fits
 abbrev pub corrected_by : Option Burst → State → ReadMode → Failure → State
-corrected_by (Some burst) s m f = sector_taken (with_corrected s (mended_buffer (bytes_of (size_at s.registers.sdh)) burst s.buffer)) m
+corrected_by (Some burst) s m f =
+    sector_taken (record s { corrected = true; buffer = mended_buffer (bytes_of (size_at s.registers.sdh)) burst s.buffer }) m
 corrected_by None s m f = read_failed s m f
 
 -- what a verdict leads to
@@ -115,7 +106,7 @@ read_by Take s j at = sector_taken s j.mode
 read_by (Correct d) s j at =
     corrected_by (first_burst (size_at s.registers.sdh) d) s j.mode (sector_failure s.registers at j.attempts error.Data)
 read_by (Retry previous) s j at =
-    with_phase s (Busy (job.Read (record { mode = j.mode; attempts = attempts_with j.attempts; previous = previous })))
+    record s { phase = Busy (job.Read (record j { attempts = attempts_with j.attempts; previous = previous })) }
 read_by (Fail e) s j at = read_failed s j.mode (sector_failure s.registers at j.attempts e)
 read_by Abort s j at = failed s failure.Aborted
 
@@ -132,7 +123,7 @@ read_judged a s j at =
 abbrev pub sector_written : State → WriteMode → State
 sector_written s m =
     cond m.multiple
-    (let t = with_registers s (next_sector s.registers) in cond (t.registers.count == 0) (ended t) (with_phase t (Taking (Sector m) 0)))
+    (let t = record s { registers = next_sector s.registers } in cond (t.registers.count == 0) (ended t) (record t { phase = Taking (Sector m) 0 }))
     (ended s)
 
 -- what an attempt's answer leads to; that the drive refuses is met in no history
@@ -142,25 +133,16 @@ write_judged (Err write_error.NotReady) s j at = failed s failure.Aborted
 write_judged (Err write_error.Protected) s j at = failed s failure.Aborted
 write_judged (Err write_error.NoId) s j at =
     cond (nat_lt j.attempts 8)
-    (with_phase s (Busy (job.Write (record { mode = j.mode; attempts = attempts_with j.attempts }))))
+    (record s { phase = Busy (job.Write (record j { attempts = attempts_with j.attempts })) })
     (failed s (sector_failure s.registers at j.attempts error.IdNotFound))
 write_judged (Err write_error.BadBlock) s j at = failed s (sector_failure s.registers at j.attempts error.BadBlock)
 
 -- ---- formats
--- the sector that pair i of a format's bytes gives: bit 7 of the first byte is the bad mark, the second is the number
-abbrev pub id_at : List ℕ → ℕ → SectorId
-id_at bytes i = record { number = slice_index bytes (2 * i + 1); bad = nat_le 128 (slice_index bytes (2 * i)) }
-
--- the first n of them
-abbrev pub ids_of : List ℕ → ℕ → List SectorId
-ids_of bytes zero = []
-ids_of bytes (suc n) = ids_of bytes n ++ (id_at bytes n ∷ [])
-
 -- the check bytes of a sector of zeros
 abbrev pub zero_check : CheckMode → SizeCode → List ℕ
 zero_check mode size = check_bytes_of (code_of mode) (replicate (bytes_of size) 0)
 
 -- a done format ends with count 0; that the drive refuses is met in no history
 abbrev pub format_judged : Result (Unit {0}) FormatError → State → State
-format_judged (Ok _) s = ended (with_registers s (at_count_0 s.registers))
+format_judged (Ok _) s = ended (record s { registers = record s.registers { count = 0 } })
 format_judged (Err e) s = failed s failure.Aborted

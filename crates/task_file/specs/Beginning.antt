@@ -10,8 +10,7 @@ use Rattle.task_file.specs.declared.state.Phase.{Phase}
 use Rattle.task_file.specs.declared.state.Phase.TheVariants.{Busy, Taking}
 use Rattle.task_file.specs.declared.state.State.{State}
 use Rattle.task_file.specs.declared.view.DriveView.{DriveView}
-use Rattle.task_file.specs.Registers.{at_cylinder_0}
-use Rattle.task_file.specs.State.{first_read, with_note, with_phase, cleared, failed}
+use Rattle.task_file.specs.State.{first_read, cleared, failed}
 use Rattle.task_file.specs.Aborting.{aborts, notes}
 
 -- the phase that a command begins with: Write and Format first take their bytes
@@ -25,18 +24,14 @@ first_phase Format = Taking Track 0
 
 -- the registers once a command is accepted: Restore clears both of the cylinder
 abbrev pub registers_for : Command → Registers → Registers
-registers_for Test r = r
-registers_for Restore r = at_cylinder_0 r
-registers_for Seek r = r
-registers_for (Read m) r = r
-registers_for (Write m) r = r
-registers_for Format r = r
+registers_for Restore r = record r { cylinder_low = 0; cylinder_high = 0 }
+registers_for c r = r
 
 -- an accepted command begins, or is aborted; aborted on a protected floppy, a Write or Format sets the protection note
 abbrev pub begun_from : State → Command → Option DriveView → State
 begun_from s c v =
-    cond (aborts c s.registers v) (failed (with_note s (notes c v)) Aborted) (with_phase s (first_phase c))
+    cond (aborts c s.registers v) (failed (record s { protection_note = notes c v }) Aborted) (record s { phase = first_phase c })
 
 -- an accepted command: failure, flags and line are cleared, and it is aborted or begins
 unfoldable pub begun : State → Command → Option DriveView → State
-begun s c v = begun_from (cleared (registers_for c s.registers) s.buffer) c v
+begun s c v = begun_from (record (cleared s) { registers = registers_for c s.registers }) c v

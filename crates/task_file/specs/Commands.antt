@@ -1,5 +1,6 @@
 -- The commands, and the bytes that give them.
-use Rattle.std.specs.Prelude.{ℕ, ◌/◌, ◌%◌, Bool, true, false, cond, ◌||◌, Some, None, Option, ◌==◌}
+use Rattle.std.specs.Prelude.{ℕ, ◌+◌, ◌*◌, ◌/◌, ◌%◌, Bool, true, false, cond, ◌||◌, Some, None, Option, ◌==◌}
+use Rattle.std.specs.Int.{from_bool}
 use Rattle.task_file.specs.declared.command.Command.{Command}
 use Rattle.task_file.specs.declared.command.Command.TheVariants.{Test, Restore, Seek, Read, Write, Format}
 
@@ -27,18 +28,21 @@ command_of b =
 
 -- Write or Format
 abbrev pub writes : Command → Bool
-writes Test = false
-writes Restore = false
-writes Seek = false
-writes (Read m) = false
 writes (Write m) = true
 writes Format = true
+writes c = false
 
 -- L is 1; Restore, Seek and Format have none
 abbrev pub is_long : Command → Bool
-is_long Test = false
-is_long Restore = false
-is_long Seek = false
 is_long (Read m) = m.long
 is_long (Write m) = m.long
-is_long Format = false
+is_long c = false
+
+-- the byte that gives a command; Restore and Seek have 16 each, and this is the first
+abbrev pub command_byte : Command → ℕ
+command_byte Test = 0x90
+command_byte Restore = 0x10
+command_byte Seek = 0x70
+command_byte (Read m) = 0x20 + 8 * from_bool m.dma + 4 * from_bool m.multiple + 2 * from_bool m.long
+command_byte (Write m) = 0x30 + 4 * from_bool m.multiple + 2 * from_bool m.long
+command_byte Format = 0x50

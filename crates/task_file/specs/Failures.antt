@@ -1,5 +1,6 @@
 -- Failures: their bits in the error register, their layers, and the last fault.
-use Rattle.std.specs.Prelude.{ℕ, Some, None, Option}
+use Rattle.std.specs.Prelude.{ℕ, Option}
+use Rattle.std.specs.Option.{option_map, option_map_or}
 use Rattle.task_file.specs.declared.failure.SectorError.{SectorError}
 use Rattle.task_file.specs.declared.failure.SectorError.TheVariants.{BadBlock, Data, IdNotFound, NoDataMark}
 use Rattle.task_file.specs.declared.failure.Failure.{Failure}
@@ -23,16 +24,13 @@ error_bit (Sector f) = sector_error_bit f.error
 
 -- the layer that a sector's failure comes from: the code where the data were wrong, else the drive
 abbrev pub sector_layer : SectorError → Layer
-sector_layer BadBlock = Drive
 sector_layer Data = CheckCode
-sector_layer IdNotFound = Drive
-sector_layer NoDataMark = Drive
+sector_layer e = Drive
 
 -- the layer that a failure comes from
 abbrev pub layer_of : Failure → Layer
-layer_of Aborted = Controller
-layer_of TrackZero = Controller
 layer_of (Sector f) = sector_layer f.error
+layer_of f = Controller
 
 -- its number
 abbrev pub layer_number : Layer → ℕ
@@ -42,13 +40,16 @@ layer_number CheckCode = 3
 
 -- what a read of the error register gives: 0 without a failure
 abbrev pub error_byte : Option Failure → ℕ
-error_byte None = 0
-error_byte (Some f) = error_bit f
+error_byte f = option_map_or error_bit f 0
 
--- a failure as numbers; where the controller itself failed, place and attempts are 0
+-- a fault of the controller itself, with place and attempts 0
+abbrev pub controller_fault : ℕ → Fault
+controller_fault error = record { layer = 1; error = error; cylinder = 0; head = 0; number = 0; attempts = 0 }
+
+-- a failure as numbers
 abbrev pub fault_of : Failure → Fault
-fault_of Aborted = record { layer = 1; error = 0x04; cylinder = 0; head = 0; number = 0; attempts = 0 }
-fault_of TrackZero = record { layer = 1; error = 0x02; cylinder = 0; head = 0; number = 0; attempts = 0 }
+fault_of Aborted = controller_fault 0x04
+fault_of TrackZero = controller_fault 0x02
 fault_of (Sector f) =
     record {
       layer = layer_number (sector_layer f.error);
@@ -61,5 +62,4 @@ fault_of (Sector f) =
 
 -- the last fault: absent without a failure
 abbrev pub last_fault : Option Failure → Option Fault
-last_fault None = None
-last_fault (Some f) = Some (fault_of f)
+last_fault = option_map fault_of

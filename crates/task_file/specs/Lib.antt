@@ -1,4 +1,5 @@
 pub mod Bays
+pub mod Sdh
 pub mod Registers
 pub mod Commands
 pub mod Failures
@@ -8,3 +9,4 @@ pub mod Beginning
 pub mod Status
 pub mod Moving
 pub mod Attempts
+pub mod Pairs

@@ -12,5 +12,5 @@ use Rattle.task_file.specs.State.{is_busy, requests}
 abbrev pub status_of : State → Option DriveView → ℕ
 status_of s v =
     cond (is_busy s.phase) 0x80
-    (cond (option_map_or (λ d. d.ready) v false) 0x50 0 + cond (s.note || option_map_or (λ d. d.protected && not (is_floppy d.at.bay)) v false) 0x20 0
+    (cond (option_map_or (λ d. d.ready) v false) 0x50 0 + cond (s.protection_note || option_map_or (λ d. d.protected && not (is_floppy d.at.bay)) v false) 0x20 0
     + cond (requests s.phase) 0x08 0 + cond s.corrected 0x04 0 + cond (is_some s.failure) 0x01 0)

@@ -1,19 +1,18 @@
 //! What comes of an attempt at a sector, and of a format.
-ghost use Rattle.std.specs.Prelude.{◌≡◌, ℕ, ◌+◌, ◌≤◌, take};
+ghost use Rattle.std.specs.Prelude.{◌≡◌};
 ghost use Rattle.sector.specs.Sizes.{bytes_of};
-ghost use Rattle.task_file.specs.Registers.{size_at, mode_at};
-ghost use Rattle.task_file.specs.Attempts.{attempts_with, address_under, sector_failure, offering, sector_taken, retried, outcome_of, verdict_of, read_failed, mended_buffer, corrected_by, read_by, read_judged, sector_written, write_judged, id_at, ids_of, zero_check, format_judged};
+ghost use Rattle.task_file.specs.Sdh.{size_at, mode_at};
+ghost use Rattle.task_file.specs.Attempts.{attempts_with, sector_failure, offering, sector_taken, retried, outcome_of, verdict_of, read_failed, mended_buffer, corrected_by, read_by, read_judged, sector_written, write_judged, zero_check, format_judged};
 
-use super::bay::Selection;
 use super::command::{ReadMode, WriteMode};
 use super::failure::{Failure, SectorError, SectorFailure};
 use super::registers::Registers;
+use super::sdh::Selection;
 use super::state::{Job, Load, Phase, ReadJob, State, WriteJob};
 use burst::{find_burst, mend};
 use check_code::CheckMode;
-use drive::{FormatError, Place, ReadError, SectorAddress, SectorBuffer, SectorId, WriteError};
+use drive::{FormatError, ReadError, SectorBuffer, WriteError};
 use sector::{Burst, SizeCode};
-use std::array;
 
 // How often a sector is tried.
 const TRIES: u8 = 9;
@@ -70,33 +69,15 @@ fn verdict_on(
     }
 }
 
-impl Registers {
-    /// The sector that the registers name, under the selected head.
-    pub fn address(self, at: Selection) -> SectorAddress
-        ensures { result ≡ address_under self at }
-    {
-        SectorAddress {
-            head: at.head,
-            number: self.number,
-            size: self.size(),
-        }
-    }
-
-    // A failure at the sector that the registers name.
-    fn failure(self, at: Selection, attempts: u8, error: SectorError) -> Failure
-        ensures { result ≡ sector_failure self at attempts error }
-    {
-        let place = Place {
-            cylinder: self.cylinder(),
-            head: at.head,
-            number: self.number,
-        };
-        Failure::Sector(SectorFailure {
-            error,
-            place,
-            attempts: attempts_with(attempts),
-        })
-    }
+// A failure at the sector that the registers name.
+fn failure_at(registers: Registers, at: Selection, attempts: u8, error: SectorError) -> Failure
+    ensures { result ≡ sector_failure registers at attempts error }
+{
+    Failure::Sector(SectorFailure {
+        error,
+        place: registers.place(at),
+        attempts: attempts_with(attempts),
+    })
 }
 
 // What an attempt showed, by its answer and what it left in the buffer: where L is 1 it is not
@@ -185,7 +166,7 @@ impl State {
             Verdict::Take => self.take_sector(job.mode),
             Verdict::Correct(difference) => {
                 let found = find_burst(difference, registers.size());
-                let failure = registers.failure(at, job.attempts, SectorError::Data);
+                let failure = failure_at(registers, at, job.attempts, SectorError::Data);
                 self.correct(found, job.mode, failure);
             }
             Verdict::Retry(previous) => {
@@ -196,7 +177,7 @@ impl State {
                 }));
             }
             Verdict::Fail(error) => {
-                self.fail_read(job.mode, registers.failure(at, job.attempts, error));
+                self.fail_read(job.mode, failure_at(registers, at, job.attempts, error));
             }
             Verdict::Abort => self.fail(Failure::Aborted),
         }
@@ -243,10 +224,10 @@ impl State {
                 }));
             }
             Err(WriteError::NoId) => {
-                self.fail(registers.failure(at, job.attempts, SectorError::IdNotFound));
+                self.fail(failure_at(registers, at, job.attempts, SectorError::IdNotFound));
             }
             Err(WriteError::BadBlock) => {
-                self.fail(registers.failure(at, job.attempts, SectorError::BadBlock));
+                self.fail(failure_at(registers, at, job.attempts, SectorError::BadBlock));
             }
         }
     }
@@ -263,17 +244,6 @@ impl State {
             Err(_) => self.fail(Failure::Aborted),
         }
     }
-}
-
-/// The sectors that the pairs of a format's bytes give, mark then number: all 64 that a track can
-/// have.
-pub fn format_ids(bytes: &[u8; 1024]) -> [SectorId; 64]
-    ensures { (n : ℕ) → n ≤ 64 → take n result ≡ ids_of bytes.now n }
-{
-    array::from_fn(|i| SectorId {
-        number: bytes[2 * i + 1],
-        bad: bytes[2 * i] >= 128,
-    })
 }
 
 /// The check bytes of a sector of zeros.

@@ -1,4 +1,4 @@
-//! The bays, and what SDH selects.
+//! The bays.
 ghost use Rattle.std.specs.Prelude.{◌≡◌, ◌<◌};
 ghost use Rattle.task_file.specs.declared.bay.Bay.{Bay};
 ghost use Rattle.task_file.specs.Bays.{bay_number, bay_index, is_floppy};
@@ -11,13 +11,6 @@ pub const BAYS: usize = 2;
 pub enum Bay {
     Winchester1 = 1,
     Floppy1 = 4,
-}
-
-/// What SDH selects: a bay, and the head on its drive.
-#[derive(Clone, Copy)]
-pub struct Selection {
-    pub bay: Bay,
-    pub head: u8,
 }
 
 impl From<Bay> for u8 {

@@ -28,8 +28,8 @@ fn registers_for(command: Command, registers: Registers) -> Registers
 {
     match command {
         Command::Restore => Registers {
-            low: 0,
-            high: 0,
+            cylinder_low: 0,
+            cylinder_high: 0,
             ..registers
         },
         _ => registers,
@@ -43,9 +43,10 @@ impl State {
     pub fn begin(&mut self, command: Command, view: Option<DriveView>)
         ensures { self.new ≡ begun self.old command view }
     {
-        self.clear(registers_for(command, self.registers));
+        self.clear();
+        self.registers = registers_for(command, self.registers);
         if aborts(view, command, self.registers) {
-            self.note = view.is_some_and(|drive| drive.guards(command));
+            self.protection_note = view.is_some_and(|drive| drive.guards(command));
             self.fail(Failure::Aborted);
         } else {
             self.phase = first_phase(command);

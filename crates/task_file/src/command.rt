@@ -1,7 +1,7 @@
 //! The commands, and the bytes that give them.
-ghost use Rattle.std.specs.Prelude.{◌≡◌, ◌<◌};
+ghost use Rattle.std.specs.Prelude.{◌≡◌, ◌<◌, Some};
 ghost use Rattle.std.specs.Result.{result_ok};
-ghost use Rattle.task_file.specs.Commands.{has_bit, read_given, write_given, command_of, writes, is_long};
+ghost use Rattle.task_file.specs.Commands.{has_bit, read_given, write_given, command_of, command_byte, writes, is_long};
 
 use thiserror::Error;
 
@@ -94,6 +94,29 @@ impl TryFrom<u8> for Command {
             7 => Ok(Command::Seek),
             9 if byte == 0x90 => Ok(Command::Test),
             _ => Err(NoSuchCommand),
+        }
+    }
+}
+
+impl From<Command> for u8 {
+    // The byte gives the command back.
+    ghost from_gives = { λ command byte. (byte ≡ command_byte command)
+        × (command_of byte ≡ Some command) };
+
+    // The byte that gives a command; of Restore's and Seek's 16 each, the first.
+    #[tactic(auto, unfolding(crate::specs::Commands::command_of))]
+    fn from(command: Command) -> u8 {
+        match command {
+            Command::Test => 0x90,
+            Command::Restore => 0x10,
+            Command::Seek => 0x70,
+            Command::Read(mode) => {
+                0x20 + 8 * u8::from(mode.dma)
+                    + 4 * u8::from(mode.multiple)
+                    + 2 * u8::from(mode.long)
+            }
+            Command::Write(mode) => { 0x30 + 4 * u8::from(mode.multiple) + 2 * u8::from(mode.long) }
+            Command::Format => 0x50,
         }
     }
 }

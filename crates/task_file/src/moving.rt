@@ -1,8 +1,8 @@
 //! Bytes that move between the host and the buffer.
 ghost use Rattle.std.specs.Prelude.{◌≡◌};
 ghost use Rattle.sector.specs.Sizes.{bytes_of};
-ghost use Rattle.task_file.specs.Registers.{size_at};
-ghost use Rattle.task_file.specs.Moving.{byte_at, with_byte, moved_length, load_is_long, all_drawn, drawn, offered_in, drawn_in, checked, filled, put, put_in};
+ghost use Rattle.task_file.specs.Sdh.{size_at};
+ghost use Rattle.task_file.specs.Moving.{byte_at, with_byte, moved_length, load_is_long, all_drawn, offered, drawn, checked, filled, put};
 
 use super::command::ReadMode;
 use super::state::{Job, Load, Phase, ReadJob, State, WriteJob};
@@ -62,10 +62,10 @@ impl State {
 
     // The byte that is offered goes out, wherever it stands; where none is, 0 does.
     #[inline(never)]
-    #[tactic(auto, unfolding(crate::specs::Moving::drawn))]
+    #[tactic(auto, unfolding(crate::specs::Moving::drawn_at))]
     fn draw_anywhere(&mut self) -> u8
-        ensures byte { result ≡ offered_in self.old.phase self.old }
-        ensures after { self.new ≡ drawn_in self.old.phase self.old }
+        ensures byte { result ≡ offered self.old }
+        ensures after { self.new ≡ drawn self.old }
     {
         let Phase::Offering(mode, at) = self.phase else {
             return 0;
@@ -83,10 +83,10 @@ impl State {
     /// The byte that is offered goes out; where none is, 0 does. Before the sector's last byte
     /// nothing but the place changes.
     #[inline(always)]
-    #[tactic(auto, unfolding(crate::specs::Moving::drawn))]
+    #[tactic(auto, unfolding(crate::specs::Moving::drawn_at))]
     pub fn draw(&mut self) -> u8
-        ensures byte { result ≡ offered_in self.old.phase self.old }
-        ensures after { self.new ≡ drawn_in self.old.phase self.old }
+        ensures byte { result ≡ offered self.old }
+        ensures after { self.new ≡ drawn self.old }
     {
         let last = self.registers.size().bytes() - 1;
         if let Phase::Offering(_, at) = &mut self.phase {
@@ -124,9 +124,9 @@ impl State {
 
     // A byte comes in, wherever it goes; where none is asked for, it is dropped.
     #[inline(never)]
-    #[tactic(auto, unfolding(crate::specs::Moving::put))]
+    #[tactic(auto, unfolding(crate::specs::Moving::put_at))]
     fn put_anywhere(&mut self, byte: u8)
-        ensures { self.new ≡ put_in self.old.phase self.old byte }
+        ensures { self.new ≡ put self.old byte }
     {
         let Phase::Taking(load, at) = self.phase else {
             return;
@@ -143,9 +143,9 @@ impl State {
     /// A byte comes in; where none is asked for, it is dropped. Before the sector's last byte
     /// nothing but the buffer and the place changes.
     #[inline(always)]
-    #[tactic(auto, unfolding(crate::specs::Moving::put))]
+    #[tactic(auto, unfolding(crate::specs::Moving::put_at))]
     pub fn put(&mut self, byte: u8)
-        ensures { self.new ≡ put_in self.old.phase self.old byte }
+        ensures { self.new ≡ put self.old byte }
     {
         let last = self.registers.size().bytes() - 1;
         if let Phase::Taking(_, at) = &mut self.phase {

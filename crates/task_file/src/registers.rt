@@ -1,10 +1,12 @@
 //! The eight registers, and what those that the host writes say.
 ghost use Rattle.std.specs.Prelude.{◌≡◌};
 ghost use Rattle.std.specs.Result.{result_ok};
-ghost use Rattle.task_file.specs.Registers.{register_number, register_numbered, cylinder_of, size_at, mode_at, selected, next_sector, sector_count, stored};
+ghost use Rattle.task_file.specs.Registers.{register_number, register_numbered, cylinder_of, place_under, address_under, next_sector, sector_count, stored};
+ghost use Rattle.task_file.specs.Sdh.{size_at, mode_at, selected};
 
-use super::bay::{Bay, Selection};
+use super::sdh::{Selection, mode_at, selected, size_at};
 use check_code::CheckMode;
+use drive::{Place, SectorAddress};
 use sector::SizeCode;
 use thiserror::Error;
 
@@ -17,10 +19,8 @@ pub enum Register {
     Count = 2,
     /// Sector number.
     Number = 3,
-    /// Cylinder low.
-    Low = 4,
-    /// Cylinder high.
-    High = 5,
+    CylinderLow = 4,
+    CylinderHigh = 5,
     /// Size, drive and head.
     Sdh = 6,
     /// Status when read and command when written.
@@ -39,10 +39,9 @@ pub struct Registers {
     pub count: u8,
     /// Sector number.
     pub number: u8,
-    /// Cylinder low.
-    pub low: u8,
-    /// Cylinder high, of which only bits 1 and 0 count.
-    pub high: u8,
+    pub cylinder_low: u8,
+    /// Of it only bits 1 and 0 count.
+    pub cylinder_high: u8,
     /// Bit 7 check code, bits 6 and 5 size code, bits 4 to 0 drive and head.
     pub sdh: u8,
 }
@@ -59,8 +58,8 @@ impl TryFrom<u8> for Register {
             1 => Ok(Register::Error),
             2 => Ok(Register::Count),
             3 => Ok(Register::Number),
-            4 => Ok(Register::Low),
-            5 => Ok(Register::High),
+            4 => Ok(Register::CylinderLow),
+            5 => Ok(Register::CylinderHigh),
             6 => Ok(Register::Sdh),
             7 => Ok(Register::Status),
             _ => Err(NoSuchRegister),
@@ -82,41 +81,49 @@ impl Registers {
     pub fn cylinder(self) -> u16
         ensures { result ≡ cylinder_of self }
     {
-        u16::from_be_bytes([self.high % 4, self.low])
+        u16::from_be_bytes([self.cylinder_high % 4, self.cylinder_low])
     }
 
     /// The sector size, in bits 6 and 5 of SDH.
     pub fn size(self) -> SizeCode
         ensures { result ≡ size_at self.sdh }
     {
-        SizeCode::try_from(self.sdh / 32 % 4).unwrap()
+        size_at(self.sdh)
     }
 
     /// The check code, in bit 7 of SDH.
     pub fn mode(self) -> CheckMode
         ensures { result ≡ mode_at self.sdh }
     {
-        if self.sdh >= 128 {
-            CheckMode::Ecc
-        } else {
-            CheckMode::Crc
-        }
+        mode_at(self.sdh)
     }
 
     /// The bay and the head, in bits 4 to 0 of SDH, if they select a bay.
     pub fn selection(self) -> Option<Selection>
         ensures { result ≡ selected self.sdh }
     {
-        match self.sdh / 8 % 4 {
-            0 => Some(Selection {
-                bay: Bay::Winchester1,
-                head: self.sdh % 8,
-            }),
-            3 if self.sdh / 2 % 4 == 0 => Some(Selection {
-                bay: Bay::Floppy1,
-                head: self.sdh % 2,
-            }),
-            _ => None,
+        selected(self.sdh)
+    }
+
+    /// The place that they name under the selected head.
+    pub fn place(self, at: Selection) -> Place
+        ensures { result ≡ place_under self at }
+    {
+        Place {
+            cylinder: self.cylinder(),
+            head: at.head,
+            number: self.number,
+        }
+    }
+
+    /// What an attempt at the sector there names.
+    pub fn address(self, at: Selection) -> SectorAddress
+        ensures { result ≡ address_under self at }
+    {
+        SectorAddress {
+            head: at.head,
+            number: self.number,
+            size: self.size(),
         }
     }
 
@@ -146,8 +153,8 @@ impl Registers {
         match register {
             Register::Count => self.count = byte,
             Register::Number => self.number = byte,
-            Register::Low => self.low = byte,
-            Register::High => self.high = byte,
+            Register::CylinderLow => self.cylinder_low = byte,
+            Register::CylinderHigh => self.cylinder_high = byte,
             Register::Sdh => self.sdh = byte,
             _ => {}
         }

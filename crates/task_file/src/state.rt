@@ -74,8 +74,8 @@ pub struct State {
     pub failure: Option<Failure>,
     /// A sector of the last command was corrected.
     pub corrected: bool,
-    /// The protection note: a Write or Format was aborted on a protected floppy.
-    pub note: bool,
+    /// A Write or Format was aborted on a protected floppy.
+    pub protection_note: bool,
     /// The interrupt line.
     pub intrq: bool,
     pub phase: Phase,
@@ -91,22 +91,21 @@ impl State {
             registers: Registers::default(),
             failure: None,
             corrected: false,
-            note: false,
+            protection_note: false,
             intrq: false,
             phase: Phase::Busy(Job::Test),
             buffer: SectorBuffer::zeroed(),
         }
     }
 
-    // Failure, flags and line are cleared, and what was moving is dropped; only the buffer stays,
-    // beside these registers.
-    pub(super) fn clear(&mut self, registers: Registers)
-        ensures { self.new ≡ cleared registers self.old.buffer }
+    // Failure, flags and line are cleared, and what was moving is dropped; registers and buffer
+    // stay.
+    pub(super) fn clear(&mut self)
+        ensures { self.new ≡ cleared self.old }
     {
-        self.registers = registers;
         self.failure = None;
         self.corrected = false;
-        self.note = false;
+        self.protection_note = false;
         self.intrq = false;
         self.phase = Phase::Rest;
     }
@@ -115,7 +114,8 @@ impl State {
     pub fn reset(&mut self)
         ensures { self.new ≡ reset self.old }
     {
-        self.clear(Registers::default());
+        self.clear();
+        self.registers = Registers::default();
         self.phase = Phase::Busy(Job::Test);
     }
 

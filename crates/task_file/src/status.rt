@@ -9,6 +9,24 @@ use super::failure::Fault;
 use super::state::{Phase, State};
 use super::view::DriveView;
 
+/// What the status reads while BUSY is on.
+pub const BUSY: u8 = 0x80;
+
+/// Bits 6 and 4 of the status: the selected drive is ready.
+pub const READY: u8 = 0x50;
+
+/// Bit 5 of the status: a protected Winchester is selected, or the protection note is set.
+pub const PROTECTED: u8 = 0x20;
+
+/// Bit 3 of the status: DRQ, the data request.
+pub const DATA_REQUEST: u8 = 0x08;
+
+/// Bit 2 of the status: a sector was corrected.
+pub const CORRECTED: u8 = 0x04;
+
+/// Bit 0 of the status: the command failed.
+pub const ERROR: u8 = 0x01;
+
 impl Phase {
     /// BUSY: a command is under way.
     pub fn is_busy(self) -> bool
@@ -31,15 +49,15 @@ impl State {
         ensures { result ≡ status_of self.now view }
     {
         if self.phase.is_busy() {
-            return 0x80;
+            return BUSY;
         }
         let ready = view.is_some_and(|drive| drive.ready);
         let locked = view.is_some_and(|drive| drive.protected && !drive.at.bay.is_floppy());
-        0x50 * u8::from(ready)
-            + 0x20 * u8::from(self.note || locked)
-            + 0x08 * u8::from(self.phase.requests())
-            + 0x04 * u8::from(self.corrected)
-            + u8::from(self.failure.is_some())
+        READY * u8::from(ready)
+            + PROTECTED * u8::from(self.protection_note || locked)
+            + DATA_REQUEST * u8::from(self.phase.requests())
+            + CORRECTED * u8::from(self.corrected)
+            + ERROR * u8::from(self.failure.is_some())
     }
 
     /// The error register: 0 without a failure.

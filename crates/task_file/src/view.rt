@@ -2,11 +2,11 @@
 ghost use Rattle.std.specs.Prelude.{◌≡◌, Some};
 ghost use Rattle.task_file.specs.Aborting.{is_unusable, unfit_for_floppy, refuses_format, is_hindered, aborts, guards};
 
-use super::bay::Selection;
 use super::command::Command;
 use super::registers::Registers;
+use super::sdh::Selection;
 use check_code::CheckMode;
-use drive::MOST_SECTORS;
+use drive::{Geometry, MOST_SECTORS};
 
 /// The selected drive, as far as commands and the status depend on it.
 #[derive(Clone, Copy)]
@@ -15,10 +15,7 @@ pub struct DriveView {
     pub at: Selection,
     pub ready: bool,
     pub protected: bool,
-    /// Its measures, here and in the fields below.
-    pub cylinders: u16,
-    pub heads: u8,
-    pub capacity: u32,
+    pub geometry: Geometry,
 }
 
 impl DriveView {
@@ -42,7 +39,9 @@ impl DriveView {
     {
         let count = registers.sectors() as usize;
         let bytes = count * registers.size().bytes();
-        self.at.head >= self.heads || count > MOST_SECTORS || bytes > self.capacity as usize
+        self.at.head >= self.geometry.heads
+            || count > MOST_SECTORS
+            || bytes > self.geometry.capacity as usize
     }
 
     /// Whether the command is a Write or Format, and the drive a protected floppy.
@@ -58,7 +57,7 @@ impl DriveView {
     {
         self.is_unusable()
             || self.is_unfit(command, registers.mode())
-            || registers.cylinder() >= self.cylinders
+            || registers.cylinder() >= self.geometry.cylinders
             || self.guards(command)
     }
 

@@ -19,8 +19,8 @@ use super::super::make::Make;
 use super::super::record::{HEADER, find_sector, format_track, read_slot, write_slot};
 use super::Image;
 use drive::{
-    Drive, FormatError, MOST_SECTORS, NotReady, ReadError, SectorAddress, SectorBuffer, SectorId,
-    WriteError,
+    Drive, FormatError, Geometry, MOST_SECTORS, NotReady, ReadError, SectorAddress, SectorBuffer,
+    SectorId, WriteError,
 };
 use sector::SizeCode;
 use std::ops::Range;
@@ -29,9 +29,7 @@ impl<M: Make> Image<M> {
     // Where in the memory the record of a track under the head stands.
     fn record_range(&self, head: u8) -> Range<usize>
         requires { head < self.now.geometry.heads }
-        ensures start { result.start
-            ≡ record_start self.now.geometry.heads self.now.geometry.capacity
-            self.now.cylinder head }
+        ensures start { result.start ≡ record_start self.now.geometry self.now.cylinder head }
         ensures end { result.end ≡ result.start + (386 + self.now.geometry.capacity) }
         ensures inside { result.end ≤ length self.now.memory.items }
     {
@@ -41,19 +39,28 @@ impl<M: Make> Image<M> {
         start..start + length
     }
 
+    // The record of a track under the head.
+    fn record_under(&self, head: u8) -> &[u8]
+        requires { head < self.now.geometry.heads }
+        ensures { (386 ≤ length result.now) × (result.now
+            ≡ record_of self.now.geometry self.now.cylinder head self.now.memory.items) }
+    {
+        &self.memory[self.record_range(head)]
+    }
+
     // The slot of the first sector with this number and size on the track of a head.
     fn find(&self, at: SectorAddress) -> Option<usize>
         ensures slot { result
             ≡ slot_of (track_under (model_of self.now) at.head) at.number at.size }
         ensures found { IfSome result
             (λ k. (at.head < self.now.geometry.heads)
-            × Slot (record_of self.now.geometry.heads self.now.geometry.capacity
-            self.now.cylinder at.head self.now.memory.items) at.size k) }
+            × Slot (record_of self.now.geometry self.now.cylinder at.head self.now.memory.items)
+            at.size k) }
     {
         if at.head >= self.geometry.heads {
             return None;
         }
-        find_sector(&self.memory[self.record_range(at.head)], at.number, at.size)
+        find_sector(self.record_under(at.head), at.number, at.size)
     }
 
     // What stands first against a format, or that nothing does.
@@ -94,16 +101,8 @@ impl<M: Make> Drive for Image<M> {
 
     ghost bounded = { λ d. image_bounded d };
 
-    fn cylinders(&self) -> u16 {
-        self.geometry.cylinders
-    }
-
-    fn heads(&self) -> u8 {
-        self.geometry.heads
-    }
-
-    fn capacity(&self) -> u32 {
-        self.geometry.capacity
+    fn geometry(&self) -> Geometry {
+        self.geometry
     }
 
     fn is_ready(&self) -> bool {
@@ -136,12 +135,7 @@ impl<M: Make> Drive for Image<M> {
         let Some(slot) = self.find(at) else {
             return Err(ReadError::NoId);
         };
-        read_slot(
-            &self.memory[self.record_range(at.head)],
-            slot,
-            at.size,
-            buffer,
-        )
+        read_slot(self.record_under(at.head), slot, at.size, buffer)
     }
 
     fn write(&mut self, at: SectorAddress, buffer: &SectorBuffer) -> Result<(), WriteError> {

@@ -1,10 +1,10 @@
 -- Each answer is the definition's; what it leaves is what was written.
-use Rattle.std.proofs.Common.{◌≡◌, ℕ, eqb, length, None, Some, Ok, Err, sym, refl, ap, ◌∙◌, rules}
+use Rattle.std.proofs.Common.{◌≡◌, ℕ, eqb, length, None, Some, Ok, Err, ok_or, option_map, sym, refl, ap, ◌∙◌, rules}
 use Rattle.std.proofs.lemmas.Bool.{cond-false, ne_eqb}
 use Rattle.sector.specs.Sizes.{size_with}
 use Rattle.burst.specs.declared.mending.CorrectionError.TheVariants.{Uncorrectable, UnknownSize}
 use Rattle.burst.specs.Search.{first_burst}
-use Rattle.burst.specs.Mending.{by_burst, judged, correction}
+use Rattle.burst.specs.Mending.{judged, correction}
 use Rattle.burst.proofs.Restoring.{restored_by}
 use Rattle.burst.proofs.mending.correct.Goals as goal
 
@@ -27,7 +27,7 @@ returns c =
     let long : size_with (length bytes) ≡ Some size = cc c.in_ok-size.ensures.ok_part in
     let found : first_burst size d ≡ Some burst = cc c.in_ok-burst.ensures.ok_part in
     let answer : Ok (Some burst) ≡ correction (size_with (length bytes)) bytes check =
-    ap by_burst (sym found)
-    ∙ sym (cond-false (eqb d 0) (Ok None) (by_burst (first_burst size d)) (ne_eqb d 0 c.if-difference-eq0.false))
+    ap (λ o. ok_or (option_map Some o) Uncorrectable) (sym found)
+    ∙ sym (cond-false (eqb d 0) (Ok None) _ (ne_eqb d 0 c.if-difference-eq0.false))
     ∙ ap (judged size) c.difference-difference.ensures ∙ ap (λ o. correction o bytes check) (sym long) in
     record { answer = answer; after = c.mend.ensures; restored = restored_by bytes check (Ok (Some burst)) answer c.mend.new.bytes c.mend.ensures }

@@ -1,11 +1,11 @@
--- Each turn rules one candidate, one first bit or one pair of bytes out; the first that fits is the definition's.
-use Rattle.std.proofs.Common.{◌≡◌, ◌+◌, ◌-◌, ◌*◌, ◌/◌, ◌^◌, ◌<◌, ◌≤◌, sym, refl, ap, ◌∙◌, subst, arith, rules, MatchOption, add-zero}
+-- Each turn rules one burst, one first bit or one pair of bytes out; the first that fits is the definition's.
+use Rattle.std.proofs.Common.{◌≡◌, ◌+◌, ◌-◌, ◌*◌, ◌/◌, ◌^◌, ◌<◌, ◌≤◌, sym, refl, ap, ◌∙◌, subst, arith, rules, MatchOption}
 use Rattle.std.proofs.lemmas.Bool.{lt-ltb, ltb-true, both_ways}
 use Rattle.check_code.specs.Code.{ecc_code}
 use Rattle.check_code.specs.Aligned.{steps}
 use Rattle.burst.specs.Search.{bits_of, NoneFits, Fits}
 use Rattle.burst.proofs.Patterns.{mirror}
-use Rattle.burst.proofs.Searching.{Before, burst_at, back_first, back_more, passed_none, before_none, passed_more, firsts_few, halves_few, shown_is, passed_all, before_pair, before_more, next_more, found, whole_pairs, not_found, none_fits, fits}
+use Rattle.burst.proofs.Searching.{back_first, back_more, next_more, firsts_few, halves_few, shown_is, half_more, first_more, before_pair, found, whole_pairs, not_found, none_fits, fits}
 use Rattle.burst.proofs.search.find_burst.Goals as goal
 use Rattle.burst.proofs.search.find_burst.Goals.{else-register-mirrored-via-then-register-mirrored+else-ends_within, else-register-mirrored-via-else-register-mirrored}
 
@@ -20,18 +20,15 @@ search-init c =
       next_is = c.shifted_by_two-next.ensures;
       passed = λ size e. (
         back_first size d r (ap (λ m. steps ecc_code (m - 20) r) (e ∙ sym own) ∙ c.taken_back-register.ensures),
-        before_none size d,
+        λ k l. absurd (omega arith),
       );
     }
 
 pub loop-bit-init : goal.loop-bit-init
-loop-bit-init c = (
-  c.search.invariant.none_found,
-  λ size e. subst (Before size c.args.difference) (sym (add-zero (16 * c.search.pair))) (c.search.invariant.passed size e).1,
-)
+loop-bit-init c = (c.search.invariant.none_found, λ size e k l. (c.search.invariant.passed size e).1 k (omega arith))
 
 pub loop-half-init : goal.loop-half-init
-loop-half-init c = (c.loop-bit.invariant.0, λ size e. passed_none size c.args.difference (16 * c.search.pair + c.loop-bit.bit))
+loop-half-init c = (c.loop-bit.invariant.0, λ size e k l. c.loop-bit.invariant.1 size e k (omega arith))
 
 pub loop-half-preserved : goal.loop-half-preserved
 loop-half-preserved c =
@@ -47,7 +44,7 @@ loop-half-preserved c =
       l.invariant.0,
       λ size e.
           let inside : 16 * s.pair + 16 ≤ bits_of size = omega (arith, c.search-test.true) in
-          passed_more size d s.pair s.register inside small s.invariant.fits.0 (s.invariant.passed size e).0 j l.half near few
+          half_more size d s.pair s.register inside small s.invariant.fits.0 (s.invariant.passed size e).0 j l.half near few
           (l.invariant.1 size e)
           (λ same ends.
           elim c.else-register-mirrored.branch [
@@ -72,15 +69,12 @@ loop-bit-preserved c =
     let small : d < 2 ^ 32 = search rules in
     let bits = c.firsts_seen-bit-end in
     let near : j < 16 = firsts_few s.register bits.result j bits.ensures c.loop-bit-test.true in
-    let done : l.half ≡ seen.result = omega (arith, c.loop-half-test.false) in
-    let next : f + 1 ≡ 16 * s.pair + (j + 1) = omega arith in (
+    let done : l.half ≡ seen.result = omega (arith, c.loop-half-test.false) in (
       l.invariant.0,
       λ size e.
           let inside : 16 * s.pair + 16 ≤ bits_of size = omega (arith, c.search-test.true) in
-          subst (Before size d) next
-          (before_more size d f (c.loop-bit.invariant.1 size e)
-          (passed_all size d s.pair s.register inside small s.invariant.fits.0 (s.invariant.passed size e).0 j seen.result l.half near
-          seen.ensures done (l.invariant.1 size e))),
+          first_more size d s.pair s.register inside small s.invariant.fits.0 (s.invariant.passed size e).0 j seen.result l.half near
+          seen.ensures done (l.invariant.1 size e),
     )
 
 pub search-preserved : goal.search-preserved
@@ -111,7 +105,7 @@ returns-after-search c =
     let s = c.search in
     let e : bits_of size ≡ 8 * c.bytes.result + 32 = omega (arith, c.bytes.ensures) in
     let end : 16 * s.pair ≡ bits_of size = omega (arith, c.search-test.false, e, whole_pairs size) in
-    let none = not_found size d (subst (λ f. Before size d f) end (s.invariant.passed size e).1) in
+    let none = not_found size d (λ k l. (s.invariant.passed size e).1 k (omega arith)) in
     record {
       first = s.invariant.none_found ∙ sym none;
       only = subst (λ o. MatchOption o (NoneFits size d) (λ b. Fits size d b)) (sym s.invariant.none_found) (none_fits size d none);
@@ -139,5 +133,5 @@ returns-then-ends_within c =
     c.if-register-mirrored.true ∙ shown_is (2 * l.half + 1) j c.mirrored.result c.mirrored.ensures in
     let is =
     found size d s.pair s.register inside small s.invariant.fits.0 (s.invariant.passed size e).0 j l.half near few
-    (l.invariant.1 size e) (c.loop-bit.invariant.1 size e) shown ends in
-    record { first = sym is; only = fits size d (burst_at size d f l.half) is }
+    (l.invariant.1 size e) shown ends in
+    record { first = sym is; only = fits size d _ is }

@@ -6,7 +6,7 @@ use Rattle.sector.specs.declared.size.SizeCode.{SizeCode}
 use Rattle.check_code.specs.Code.{ecc_code}
 use Rattle.check_code.specs.Aligned.{steps}
 use Rattle.burst.specs.Search.{bits_of}
-use Rattle.burst.proofs.Searching.{Back, Passed, Before}
+use Rattle.burst.proofs.Searching.{Back, Before}
 use Rattle.burst.proofs.search.find_burst.Given as goal
 
 abbrev pub invariant-search : goal.invariant-search
@@ -15,11 +15,11 @@ invariant-search l = record {
   fits : (l.register < 2 ^ 32) × (l.next < 2 ^ 32);
   next_is : l.next ≡ steps ecc_code 16 l.register;
   passed : (size : SizeCode) → bits_of size ≡ l.bits
-      → Back size l.difference l.pair l.register × Before size l.difference (16 * l.pair);
+      → Back size l.difference l.pair l.register × Before size l.difference (16 * (16 * l.pair));
 }
 
 abbrev pub invariant-loop-bit : goal.invariant-loop-bit
-invariant-loop-bit l = (l.found ≡ None) × ((size : SizeCode) → bits_of size ≡ l.bits → Before size l.difference (16 * l.pair + l.bit))
+invariant-loop-bit l = (l.found ≡ None) × ((size : SizeCode) → bits_of size ≡ l.bits → Before size l.difference (16 * (16 * l.pair + l.bit)))
 
 abbrev pub invariant-loop-half : goal.invariant-loop-half
-invariant-loop-half l = (l.found ≡ None) × ((size : SizeCode) → bits_of size ≡ l.bits → Passed size l.difference l.first l.half)
+invariant-loop-half l = (l.found ≡ None) × ((size : SizeCode) → bits_of size ≡ l.bits → Before size l.difference (16 * l.first + l.half))

@@ -1,13 +1,16 @@
--- So far the calls up to the index have been made, and each has been told of.
-use Rattle.std.proofs.Common.{◌≡◌, take, vec_items}
+-- The calls that are left, from here on, answer and leave what all of them do from the start.
+use Rattle.std.proofs.Common.{◌≡◌, ◌++◌, drop, map, vec_items}
 use Rattle.controller.specs.Controller.{model_of}
-use Rattle.c_abi.specs.Runs.{all_shown, run_of}
+use Rattle.controller.specs.Runs.{runs}
+use Rattle.c_abi.specs.Runs.{call_of, all_shown}
 use Rattle.c_abi.proofs.answers.all_answers.Given as goal
 
 abbrev pub invariant-loop-call : goal.invariant-loop-call
 invariant-loop-call g l =
-    let b = model_of g.D.Drive.meaning l.initial.controller in
+    let left = map call_of (drop l.call-index l.calls) in
+    let before = model_of g.D.Drive.meaning l.initial.controller in
+    let now = model_of g.D.Drive.meaning l.controller in
     record {
-      after : model_of g.D.Drive.meaning l.controller ≡ run_of b (take l.call-index l.calls);
-      all : vec_items l.answers ≡ all_shown b (take l.call-index l.calls);
+      after : runs before (map call_of l.calls) ≡ runs now left;
+      all : all_shown before (map call_of l.calls) ≡ vec_items l.answers ++ all_shown now left;
     }

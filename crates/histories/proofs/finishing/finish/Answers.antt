@@ -13,7 +13,7 @@ pub loop-made-init : goal.loop-made-init
 loop-made-init g c =
     let b = model_of g.D.Drive.meaning c.args.controller.now in
     let most : ℕ = c.MOST_CYLINDERS-most.result in
-    let few = in_each_bay g.D.Drive.meaning (λ (d : DriveModel). (d.cylinder < most) × (d.cylinders ≤ most)) (omega (arith, g.met.D.Drive.limits), omega (arith, g.met.D.Drive.limits))
+    let few = in_each_bay g.D.Drive.meaning (λ (d : DriveModel). (d.cylinder < most) × (d.geometry.cylinders ≤ most)) (omega (arith, g.met.D.Drive.limits), omega (arith, g.met.D.Drive.limits))
     (λ d. (omega (arith, g.met.D.Drive.bounded d), omega (arith, g.met.D.Drive.bounded d))) c.args.controller.now.drives in
     let within : Within most b = record { stands = λ bay. (few bay).0; ends = λ bay. (few bay).1 } in
     record {

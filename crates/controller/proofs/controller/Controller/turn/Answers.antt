@@ -13,6 +13,11 @@ invariant_of-self g c =
           c.args.self.now.reached;
     }
 
+pub returns-in-Busy-Some : goal.returns-in-Busy-Some
+returns-in-Busy-Some g c =
+    turned_back g.D.Drive.meaning c.args.self.now.state _ c.args.self.now.drives c.in-Busy-Some.job c.in-Busy-Some.at c.index.result _ _
+    (search rules) (search rules) c.index.ensures.index (search rules) c.work.ensures
+
 pub invariant_of-self-in-Busy-Test-None : goal.invariant_of-self-in-Busy-Test-None
 invariant_of-self-in-Busy-Test-None g c = record { reached = led_on Turn _ _ (search rules) c.args.self.now.reached }
 

@@ -8,5 +8,5 @@ use Rattle.task_file.proofs.state.State.status.Goals as goal
 
 pub returns : goal.returns
 returns c =
-    let guarded : c.if-self.from ≡ (c.args.self.now.note || option_map_or (λ (d : DriveView). d.protected && not (is_floppy d.at.bay)) c.args.view false) = search rules in
+    let guarded : c.if-self.from ≡ (c.args.self.now.protection_note || option_map_or (λ (d : DriveView). d.protected && not (is_floppy d.at.bay)) c.args.view false) = search rules in
     search (rules, weighted)

@@ -5,7 +5,6 @@ use Rattle.image.specs.Meaning.{model_of}
 use Rattle.image.specs.Record.{with_format}
 use Rattle.image.specs.Image.{image_model}
 use Rattle.image.proofs.Calls as calls
-use Rattle.image.proofs.FormatCall.{after_done}
 use Rattle.image.proofs.image.calls.ImageDrive.format.Goals as goal
 
 pub returns-clause-after : goal.returns-clause-after
@@ -16,7 +15,7 @@ returns-clause-after g c =
     let e = calls.cut_out s c.args.head h.0 r.result.start r.result.end c.deref_mut.result.now c.deref_mut.ensures.value r.ensures.start r.ensures.end in
     let granted : done ≡ format_answer (model_of s) c.args.head c.args.ids.now c.args.size = c.in_ok-judge_format.ensures.answer in
     let four : length c.args.check ≡ 4 = search rules in
-    ap (image_model s.geometry.cylinders s.geometry.heads s.geometry.capacity s.protected s.cylinder)
+    ap (image_model s.geometry s.protected s.cylinder)
     (calls.laid_is s c.args.head h.0 r.result.start r.result.end c.deref_mut.result.now c.deref_mut.ensures.value r.ensures.start r.ensures.end c.format_track.new.track c.format_track.auto.track)
-    ∙ after_done s c.args.head c.args.ids.now c.args.size c.args.check _ granted h.0 h.1 h.2 h.3 four
+    ∙ calls.format_done s c.args.head h.0 c.args.ids.now c.args.size c.args.check _ granted h.1 h.2 h.3 four
     (c.format_track.ensures.after ∙ ap (with_format c.args.ids.now c.args.size c.args.check) e)
