@@ -109,8 +109,10 @@ fn read_sector<D: Drive>(controller: &mut Controller<D>, turns: u8, number: u8, 
     sum
 }
 
-// Writes a sector by its number, with one turn.
+// Writes a sector by its number, with one turn: by a call of its own, so that how fast its loop is
+// hangs on no other code's length.
 #[tactic(auto, using(crate::proofs::Heard::steps), unfolding(crate::specs::Rounds::byte_given))]
+#[inline(never)]
 fn write_sector<D: Drive>(controller: &mut Controller<D>, number: u8, start: u32) -> u32
     ensures { Hears (model_of D.meaning controller.old) start (sector_written number)
         (model_of D.meaning controller.new) result }
