@@ -1,4 +1,4 @@
-/* The proved controller, as crate c_abi offers it to C. A slice is passed as a pointer and a length. */
+/* The proved controller, as crate c_board offers it to C. A slice is passed as a pointer and a length. */
 #ifndef PROVED_H
 #define PROVED_H
 

@@ -1,7 +1,7 @@
 /* Compares the proved controller with the one in plain C (compare.c), and then times both on the same rounds: sectors read and
  * written through register 0, reads that correct a burst, and refused accesses. Both hear the same sums, and leave the same image.
  *
- * Each access is a call on either side: bench/controller.c is an object of its own, and crate `c_abi` keeps its accesses out of
+ * Each access is a call on either side: bench/controller.c is an object of its own, and crate `c_board` keeps its accesses out of
  * line. With a task's number and `proved` or `plain` only those rounds are made, for a profiler. */
 #include "common.h"
 #include "compare.h"
@@ -17,7 +17,7 @@
 
 static const struct measures measures = { 4, 2, false, SECTORS * SECTOR };
 
-/* ---- the rounds of crate `c_abi`, on the controller in plain C */
+/* ---- the rounds of crate `c_board`, on the controller in plain C */
 
 static uint32_t with_number(uint32_t sum, int number)
 {

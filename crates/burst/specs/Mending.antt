@@ -28,6 +28,11 @@ mended (Ok (Some b)) bytes = inverted (set_of b) bytes
 mended (Ok None) bytes = bytes
 mended (Err e) bytes = bytes
 
+-- what a search leaves in the bytes: a burst that is found is inverted
+abbrev pub mended_by : Option Burst → List ℕ → List ℕ
+mended_by (Some b) bytes = inverted (set_of b) bytes
+mended_by None bytes = bytes
+
 -- no bit of a sector is wrong, or those that are make one burst
 abbrev pub AtMostOneBurst : BitSet → ℕ → Type 0
 AtMostOneBurst w bits = ((i : ℕ) → i < bits → w i ≡ false) ⊎ OneBurst w bits
@@ -40,6 +45,10 @@ pub record Delivered (written : List ℕ) (bytes check : List ℕ) : Type 0 wher
   pub few : AtMostOneBurst wrong (bits_of size)
   pub came : bytes ≡ inverted wrong written
   pub checked : check ≡ inverted (from_bit (8 * length written) wrong) (check_bytes_of ecc_code written)
+
+-- the bytes and check bytes are of a sector of this size, and have this difference
+abbrev pub Differs : SizeCode → ℕ → List ℕ → List ℕ → Type 0
+Differs size difference bytes check = (length bytes ≡ bytes_of size) × (difference_of ecc_code bytes check ≡ difference)
 
 -- such a sector is given back as it was written
 abbrev pub Restored : List ℕ → List ℕ → List ℕ → Type 0

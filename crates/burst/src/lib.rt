@@ -10,6 +10,6 @@ mod mending;
 mod search;
 mod theorems;
 
-pub use mending::{CorrectionError, correct, mend};
+pub use mending::{CorrectionError, correct, correct_by, mend};
 pub use search::find_burst;
 pub use theorems::bursts_apart;

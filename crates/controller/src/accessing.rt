@@ -11,18 +11,25 @@ use super::access::Refusal;
 use super::controller::Controller;
 use super::viewing::selected_view;
 use drive::Drive;
-use task_file::{BAYS, Command, Phase, Register, State};
+use task_file::{BAYS, BUSY, Command, Phase, Register, State};
+
+// Answers this status; reading it turns INTRQ off.
+fn status_read(state: &mut State, status: u8) -> u8
+    ensures byte { result ≡ status }
+    ensures after { state.new ≡ record state.old { intrq = false } }
+{
+    state.intrq = false;
+    status
+}
 
 // The status, with the drive that SDH selects now; reading it turns INTRQ off.
-#[cold]
-#[inline(never)]
 fn read_status<D: Drive>(state: &mut State, drives: &[D; BAYS]) -> u8
     ensures byte { result ≡ status_of state.old (seen (model D.meaning state.old drives.now)) }
     ensures after { state.new ≡ record state.old { intrq = false } }
 {
     let view = selected_view(state, drives);
-    state.intrq = false;
-    state.status(view)
+    let status = state.status(view);
+    status_read(state, status)
 }
 
 // Begins the command that a byte gives, on the drive that SDH selects now.
@@ -54,6 +61,7 @@ impl<D: Drive> Controller<D> {
         let register = Register::try_from(number)?;
         let Controller { state, drives } = self;
         match (state.phase, register) {
+            (Phase::Busy(_), Register::Status) => Ok(status_read(state, BUSY)),
             (_, Register::Status) => Ok(read_status(state, drives)),
             (Phase::Busy(_), _) => Err(Refusal::Busy),
             (Phase::Offering(_, _), Register::Data) => Ok(state.draw()),

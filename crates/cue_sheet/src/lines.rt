@@ -6,7 +6,12 @@ ghost use Rattle.cue_sheet.specs.Lines.{line_count, differing_line};
 pub fn count_lines(text: &[u8]) -> usize
     ensures { result ≡ line_count text.now }
 {
-    let newlines = text.iter().filter(|byte| **byte == b'\n').count();
+    let mut newlines = 0usize;
+    for byte in text {
+        if *byte == b'\n' {
+            newlines += 1;
+        }
+    }
     match text.last() {
         None | Some(b'\n') => newlines,
         Some(_) => newlines + 1,

@@ -12,7 +12,7 @@ use sector::SizeCode;
 
 /// A bay without a drive, with the memory that came for one: one cylinder, one head, no room on its
 /// track, never ready.
-#[derive(Drop)]
+#[derive(Clone, Debug, Drop)]
 pub struct EmptyBay {
     memory: Vec<u8>,
 }

@@ -288,4 +288,17 @@ mod tests {
         }
         Ok(())
     }
+
+    // A bay without a drive and its clone keep the same bytes, each in a memory of its own.
+    #[test]
+    fn empty_bay_cloned(rt: HostRuntime) -> Result<(), Fail> {
+        let bytes = [9, 8, 7].as_slice();
+        let mut memory = Vec::new(rt.alloc());
+        memory.extend_from_slice(bytes)?;
+        let bay = EmptyBay::new(memory);
+        let clone = bay.clone()?;
+        assert!(rt; bay.into_memory().as_slice() == bytes);
+        assert!(rt; clone.into_memory().as_slice() == bytes);
+        Ok(())
+    }
 }

@@ -1,6 +1,8 @@
 //! What comes of an attempt at a sector, and of a format.
 ghost use Rattle.std.specs.Prelude.{◌≡◌};
+ghost use Rattle.std.specs.Option.{option_map_or};
 ghost use Rattle.sector.specs.Sizes.{bytes_of};
+ghost use Rattle.burst.specs.Search.{first_burst};
 ghost use Rattle.task_file.specs.Sdh.{size_at, mode_at};
 ghost use Rattle.task_file.specs.Attempts.{attempts_with, sector_failure, offering, sector_taken, retried, outcome_of, verdict_of, read_failed, mended_buffer, corrected_by, read_by, read_judged, sector_written, write_judged, zero_check, format_judged};
 
@@ -9,7 +11,7 @@ use super::failure::{Failure, SectorError, SectorFailure};
 use super::registers::Registers;
 use super::sdh::Selection;
 use super::state::{Job, Load, Phase, ReadJob, State, WriteJob};
-use burst::{find_burst, mend};
+use burst::correct_by;
 use check_code::CheckMode;
 use drive::{FormatError, ReadError, SectorBuffer, WriteError};
 use sector::{Burst, SizeCode};
@@ -98,11 +100,13 @@ fn outcome_of(
     Ok(Some(mode.difference(buffer.sector(size), buffer.check)))
 }
 
-// Inverts a burst in the sector's bytes.
-fn mend_buffer(buffer: &mut SectorBuffer, size: SizeCode, burst: Burst)
-    ensures { buffer.new ≡ mended_buffer (bytes_of size) burst buffer.old }
+// Corrects the sector's bytes by their difference, and answers the burst that has it, if one does.
+fn correct_buffer(buffer: &mut SectorBuffer, size: SizeCode, difference: u32) -> Option<Burst>
+    ensures answer { result ≡ first_burst size difference }
+    ensures after { buffer.new
+        ≡ option_map_or (λ b. mended_buffer (bytes_of size) b buffer.old) result buffer.old }
 {
-    mend(&mut buffer.bytes[..size.bytes()], burst);
+    correct_by(&mut buffer.bytes[..size.bytes()], size, difference)
 }
 
 impl State {
@@ -142,15 +146,15 @@ impl State {
         }
     }
 
-    // Corrects the sector in the buffer by a burst, or fails where none fits.
-    fn correct(&mut self, found: Option<Burst>, mode: ReadMode, failure: Failure)
-        ensures { self.new ≡ corrected_by found self.old mode failure }
+    // Corrects the sector in the buffer by its difference, or fails where no burst has it.
+    fn correct(&mut self, difference: u32, mode: ReadMode, failure: Failure)
+        ensures { self.new ≡ corrected_by
+            (first_burst (size_at self.old.registers.sdh) difference) self.old mode failure }
     {
-        match found {
-            Some(burst) => {
+        let size = self.registers.size();
+        match correct_buffer(&mut self.buffer, size, difference) {
+            Some(_) => {
                 self.corrected = true;
-                let size = self.registers.size();
-                mend_buffer(&mut self.buffer, size, burst);
                 self.take_sector(mode);
             }
             None => self.fail_read(mode, failure),
@@ -165,9 +169,8 @@ impl State {
         match verdict {
             Verdict::Take => self.take_sector(job.mode),
             Verdict::Correct(difference) => {
-                let found = find_burst(difference, registers.size());
                 let failure = failure_at(registers, at, job.attempts, SectorError::Data);
-                self.correct(found, job.mode, failure);
+                self.correct(difference, job.mode, failure);
             }
             Verdict::Retry(previous) => {
                 self.phase = Phase::Busy(Job::Read(ReadJob {

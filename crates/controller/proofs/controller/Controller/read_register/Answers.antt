@@ -12,3 +12,7 @@ invariant_of-self g c = record { reached = led_on (Read c.args.number) _ _ (sear
 pub invariant_of-self-in-Offering-Data : goal.invariant_of-self-in-Offering-Data
 unfolding state_after_read
 invariant_of-self-in-Offering-Data g c = record { reached = led_on (Read c.args.number) _ _ (search rules) c.args.self.now.reached }
+
+pub invariant_of-self-in_default-Status : goal.invariant_of-self-in_default-Status
+unfolding state_after_read
+invariant_of-self-in_default-Status g c = record { reached = led_on (Read c.args.number) _ _ (search rules) c.args.self.now.reached }

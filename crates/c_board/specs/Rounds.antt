@@ -6,7 +6,7 @@ use Rattle.controller.specs.Model.{ControllerModel}
 use Rattle.controller.specs.declared.call.Call.{Call}
 use Rattle.controller.specs.declared.call.Call.TheVariants.{Read, Write, Turn}
 use Rattle.controller.specs.Runs.{Answer, runs, answers}
-use Rattle.c_abi.specs.declared.rounds.PlainRounds.{PlainRounds}
+use Rattle.c_board.specs.declared.rounds.PlainRounds.{PlainRounds}
 
 -- ---- what is heard
 -- the byte that was read, the number of the refusal, or 0

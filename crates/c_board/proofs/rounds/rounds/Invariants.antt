@@ -1,7 +1,7 @@
 -- So far as many rounds have been made as the index says.
 use Rattle.controller.specs.Controller.{model_of}
-use Rattle.c_abi.specs.Rounds.{Hears, in_turn, round_of}
-use Rattle.c_abi.proofs.rounds.rounds.Given as goal
+use Rattle.c_board.specs.Rounds.{Hears, in_turn, round_of}
+use Rattle.c_board.proofs.rounds.rounds.Given as goal
 
 abbrev pub invariant-loop-at : goal.invariant-loop-at
 invariant-loop-at g l =

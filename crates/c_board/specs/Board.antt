@@ -12,8 +12,8 @@ use Rattle.fault_table.specs.Adding.{all_added}
 use Rattle.fault_table.specs.Faults.{with_faults}
 use Rattle.task_file.specs.declared.bay.Bay.{Bay}
 use Rattle.controller.specs.Model.{ControllerModel, drives_of, made}
-use Rattle.c_abi.specs.declared.board.ImageMeasures.{ImageMeasures}
-use Rattle.c_abi.specs.declared.board.PlainFault.{PlainFault}
+use Rattle.c_board.specs.declared.board.ImageMeasures.{ImageMeasures}
+use Rattle.c_board.specs.declared.board.PlainFault.{PlainFault}
 
 -- the measures of an image, without whether it is protected
 abbrev pub geometry_of : ImageMeasures → Geometry

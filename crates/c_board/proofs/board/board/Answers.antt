@@ -1,8 +1,8 @@
 -- The board's drives mean what is asked for, each in its bay.
 use Rattle.std.proofs.Common.{[], ◌∷◌, ap₂, ◌∙◌, rules}
 use Rattle.controller.specs.Model.{made, drives_of}
-use Rattle.c_abi.specs.Board.{board_model}
-use Rattle.c_abi.proofs.board.board.Goals as goal
+use Rattle.c_board.specs.Board.{board_model}
+use Rattle.c_board.proofs.board.board.Goals as goal
 
 pub returns : goal.returns
 unfolding board_model

@@ -2,8 +2,8 @@
 use Rattle.std.proofs.Common.{◌≡◌, ◌++◌, drop, map, vec_items}
 use Rattle.controller.specs.Controller.{model_of}
 use Rattle.controller.specs.Runs.{runs}
-use Rattle.c_abi.specs.Runs.{call_of, all_shown}
-use Rattle.c_abi.proofs.answers.all_answers.Given as goal
+use Rattle.c_board.specs.Runs.{call_of, all_shown}
+use Rattle.c_board.proofs.answers.all_answers.Given as goal
 
 abbrev pub invariant-loop-call : goal.invariant-loop-call
 invariant-loop-call g l =

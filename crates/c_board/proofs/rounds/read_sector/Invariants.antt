@@ -2,8 +2,8 @@
 use Rattle.std.proofs.Common.{[], ◌∷◌, ◌++◌}
 use Rattle.controller.specs.declared.call.Call.TheVariants.{Read, Write, Turn}
 use Rattle.controller.specs.Controller.{model_of}
-use Rattle.c_abi.specs.Rounds.{Hears, in_turn}
-use Rattle.c_abi.proofs.rounds.read_sector.Given as goal
+use Rattle.c_board.specs.Rounds.{Hears, in_turn}
+use Rattle.c_board.proofs.rounds.read_sector.Given as goal
 
 abbrev pub invariant-loop-turn : goal.invariant-loop-turn
 invariant-loop-turn g l =

@@ -6,7 +6,7 @@ use Rattle.controller.specs.Model.{ControllerModel}
 use Rattle.controller.specs.declared.call.Call.{Call}
 use Rattle.controller.specs.Runs.{answer_to, called, runs, answers}
 use Rattle.controller.proofs.Runs.{runs_joined, answers_joined}
-use Rattle.c_abi.specs.Rounds.{with_answer, heard, in_turn}
+use Rattle.c_board.specs.Rounds.{with_answer, heard, in_turn}
 
 pub runs_none : (b : ControllerModel) → runs b [] ≡ b
 unfolding runs

@@ -3,9 +3,9 @@ ghost use Rattle.std.specs.Prelude.{◌≡◌, map, IfOk, if◌then◌else◌};
 ghost use Rattle.controller.specs.Controller.{model_of};
 ghost use Rattle.controller.specs.Runs.{runs};
 ghost use Rattle.task_file.specs.declared.bay.Bay.TheVariants.{Winchester1, Floppy1};
-ghost use Rattle.c_abi.specs.Board.{board_model, held, fitting};
-ghost use Rattle.c_abi.specs.Rounds.{heard, rounds_of};
-ghost use Rattle.c_abi.specs.Runs.{call_of, shown, all_shown, run_of};
+ghost use Rattle.c_board.specs.Board.{board_model, held, fitting};
+ghost use Rattle.c_board.specs.Rounds.{heard, rounds_of};
+ghost use Rattle.c_board.specs.Runs.{call_of, shown, all_shown, run_of};
 
 use super::board::{ImageMeasures, PlainFault, board, give_back, replace};
 use super::rounds::{PlainRounds, rounds};

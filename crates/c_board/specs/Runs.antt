@@ -9,10 +9,10 @@ use Rattle.controller.specs.Model.{ControllerModel}
 use Rattle.controller.specs.declared.call.Call.{Call}
 use Rattle.controller.specs.declared.call.Call.TheVariants.{Read, Write, Turn, Reset}
 use Rattle.controller.specs.Runs.{Answer, answer_to, called, runs}
-use Rattle.c_abi.specs.declared.answers.PlainCall.{PlainCall}
-use Rattle.c_abi.specs.declared.answers.PlainAnswer.{PlainAnswer}
-use Rattle.c_abi.specs.declared.rounds.PlainRounds.{PlainRounds}
-use Rattle.c_abi.specs.Rounds.{rounds_of}
+use Rattle.c_board.specs.declared.answers.PlainCall.{PlainCall}
+use Rattle.c_board.specs.declared.answers.PlainAnswer.{PlainAnswer}
+use Rattle.c_board.specs.declared.rounds.PlainRounds.{PlainRounds}
+use Rattle.c_board.specs.Rounds.{rounds_of}
 
 -- a read, a write or a turn by its number, and by any other a master reset
 abbrev pub call_of : PlainCall → Call

@@ -6,7 +6,7 @@ ghost use Rattle.std.specs.Prelude.{◌≡◌, [], ◌∷◌};
 ghost use Rattle.controller.specs.Controller.{model_of};
 ghost use Rattle.controller.specs.Model.{read_answered, after_register_read, write_answered, after_register_write};
 ghost use Rattle.controller.specs.Runs.{write_as};
-ghost use Rattle.c_abi.specs.Rounds.{number_in, Hears, sector_read, sector_written, refused, round_of, rounds_of};
+ghost use Rattle.c_board.specs.Rounds.{number_in, Hears, sector_read, sector_written, refused, round_of, rounds_of};
 
 use controller::{Call, Controller, Refusal};
 use drive::Drive;

@@ -2,8 +2,8 @@
 use Rattle.std.proofs.Common.{◌∷◌}
 use Rattle.controller.specs.declared.call.Call.TheVariants.{Write}
 use Rattle.controller.specs.Controller.{model_of}
-use Rattle.c_abi.specs.Rounds.{Hears, in_turn, byte_given}
-use Rattle.c_abi.proofs.rounds.write_sector.Given as goal
+use Rattle.c_board.specs.Rounds.{Hears, in_turn, byte_given}
+use Rattle.c_board.proofs.rounds.write_sector.Given as goal
 
 abbrev pub invariant-loop-at : goal.invariant-loop-at
 invariant-loop-at g l =

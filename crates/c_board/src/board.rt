@@ -4,7 +4,7 @@ ghost use Rattle.std.specs.Prelude.{◌≡◌, IfOk, [], length, map};
 ghost use Rattle.drive.specs.Bounds.{measures};
 ghost use Rattle.task_file.specs.declared.bay.Bay.TheVariants.{Winchester1, Floppy1};
 ghost use Rattle.controller.specs.Controller.{model_of};
-ghost use Rattle.c_abi.specs.Board.{geometry_of, entry_of, bay_model, board_model, held, fitting};
+ghost use Rattle.c_board.specs.Board.{geometry_of, entry_of, bay_model, board_model, held, fitting};
 
 use controller::Controller;
 use drive::{Drive, EmptyBay, Geometry, Place};
